@@ -1,0 +1,5 @@
+mod Faults
+mod Least
+mod Tables
+mod Texts
+mod Validity

@@ -1,0 +1,3 @@
+pub mod Keys
+pub mod Configured
+pub mod Valid

@@ -1,0 +1,14 @@
+//! The configuration of the external processing filter: one JSON object.
+#![tactic(auto)]
+
+mod config;
+mod keys;
+mod reading;
+mod sections;
+#[cfg(test)]
+mod tests;
+mod unknown;
+mod values;
+
+pub use config::{Config, ConfigFault};
+pub use reading::read_config;

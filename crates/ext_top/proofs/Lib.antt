@@ -1,0 +1,4 @@
+pub mod Fronts
+pub mod Moved
+pub mod Plays
+pub mod Endings

@@ -1,0 +1,9 @@
+pub mod Scan
+pub mod Commands
+pub mod Requests
+pub mod Kinds
+pub mod Replay
+pub mod Moves
+pub mod Plays
+pub mod Shows
+pub mod Runs

@@ -1,0 +1,95 @@
+-- A trace that is played line by line, and how a run ends.
+use Rattle.std.specs.Prelude.{ℕ, ◌≡◌, ◌+◌, ◌⊎◌, List, [], ◌∷◌, ◌++◌, length, take, Option, Bool, true, false}
+use Rattle.std.specs.Io.KnownBytes.{Appends, Consumes, Keeps}
+use Rattle.ext_config.specs.declared.config.ConfigFault.{ConfigFault}
+use Rattle.ext_top.specs.declared.stage.Stage.{Stage}
+use Rattle.ext_top.specs.declared.stage.Stage.TheVariants as stage
+use Rattle.ext_top.specs.declared.stage.Met.{Met}
+use Rattle.ext_top.specs.declared.stage.Met.TheVariants.{Goes, Faulty, Refused, Unbuilt}
+use Rattle.ext_top.specs.declared.status.Status.{Status}
+use Rattle.ext_top.specs.declared.status.Status.TheVariants as status
+use Rattle.ext_top.specs.Moves.{IsShortLine, ReadsLine, ReadsNone}
+use Rattle.ext_top.specs.Replay.{meets}
+
+-- These lines lead from a stage to another and bring this text.
+abbrev pub Steps : Stage → List (List ℕ) → List ℕ → Stage → Type 0
+Steps s [] text next = (text ≡ []) × (next ≡ s)
+Steps s (line ∷ lines) text next =
+    (first : List ℕ) × (mid : Stage) × (more : List ℕ) × IsShortLine line × (meets s line ≡ Goes first mid) × Steps mid lines more next × (text ≡ first ++ more)
+
+-- the bytes of lines
+abbrev pub joined : List (List ℕ) → List ℕ
+joined [] = []
+joined (line ∷ lines) = line ++ 10 ∷ joined lines
+
+-- So many lines were read, which lead to this stage, and all that they bring was written.
+pub record Played (count : ℕ) (left left' written written' : Option (List ℕ)) (s : Stage) : Type 0 where
+  pub lines : List (List ℕ)
+  pub text : List ℕ
+  pub counted : length lines ≡ count
+  pub steps : Steps stage.First lines text s
+  pub read : Consumes left left' (joined lines)
+  pub wrote : Appends written written' text
+
+-- the trace is at its end
+abbrev pub is_end : Stage → Bool
+is_end stage.First = false
+is_end stage.Config = false
+is_end (stage.Events setup exchange) = false
+is_end stage.End = true
+
+-- So many lines were played, and the next one comes to this.
+pub record StopsAt (m : Met) (count : ℕ) (left left' written written' : Option (List ℕ)) : Type 0 where
+  pub at : Stage
+  pub before : Option (List ℕ)
+  pub played : Played count left before written written' at
+  pub unended : is_end at ≡ false
+  pub line : List ℕ
+  pub read : ReadsLine before left' line
+  pub comes_to : meets at line ≡ m
+
+-- So many lines were played, and no further one is there, or one that is too long.
+pub record Lacks (count : ℕ) (left left' written written' : Option (List ℕ)) : Type 0 where
+  pub at : Stage
+  pub before : Option (List ℕ)
+  pub played : Played count left before written written' at
+  pub unended : is_end at ≡ false
+  pub none : ReadsNone before left'
+
+-- What was written is the front of what the lines that were read bring.
+pub record Halted (left left' written written' : Option (List ℕ)) : Type 0 where
+  pub lines : List (List ℕ)
+  pub text : List ℕ
+  pub at : Stage
+  pub steps : Steps stage.First lines text at
+  pub bytes : List ℕ
+  pub read : Consumes left left' (joined lines ++ bytes)
+  pub count : ℕ
+  pub wrote : Appends written written' (take count text)
+
+-- The line of this number is the first that is faulty or missing.
+abbrev pub FailsAt : ℕ → Option (List ℕ) → Option (List ℕ) → Option (List ℕ) → Option (List ℕ) → Type 0
+FailsAt n left left' written written' =
+    (count : ℕ) × (n ≡ count + 1) × (StopsAt Faulty count left left' written written' ⊎ Lacks count left left' written written')
+
+-- what each status says of what a replay read and wrote
+abbrev pub Ends : Status → Option (List ℕ) → Option (List ℕ) → Option (List ℕ) → Option (List ℕ) → Type 0
+Ends status.Done left left' written written' = (count : ℕ) × Played count left left' written written' stage.End
+Ends (status.TraceFault n) left left' written written' = FailsAt n left left' written written'
+Ends (status.ConfigFault fault) left left' written written' = (count : ℕ) × StopsAt (Refused fault) count left left' written written'
+Ends status.NotBuilt left left' written written' = (count : ℕ) × StopsAt Unbuilt count left left' written written'
+Ends status.ReadFault left left' written written' = Halted left left' written written'
+Ends status.WriteFault left left' written written' = Halted left left' written written'
+Ends status.Memory left left' written written' = Halted left left' written written'
+Ends status.Usage left left' written written' = Keeps left left' × Keeps written written'
+
+-- a status that the bytes of the trace decide
+abbrev pub IsVerdict : Status → Type 0
+IsVerdict status.Done = Unit {0}
+IsVerdict (status.TraceFault n) = Unit {0}
+IsVerdict (status.ConfigFault fault) = Unit {0}
+IsVerdict status.NotBuilt = Unit {0}
+IsVerdict status.ReadFault = ⊥
+IsVerdict status.WriteFault = ⊥
+IsVerdict status.Memory = ⊥
+IsVerdict status.Usage = ⊥

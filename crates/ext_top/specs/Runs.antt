@@ -1,0 +1,28 @@
+-- What each command does with its source and its sink.
+use Rattle.std.specs.Prelude.{ℕ, ◌≡◌, List, Option, Some, None}
+use Rattle.std.specs.Io.KnownBytes.{Keeps}
+use Rattle.ext_top.specs.declared.words.Command.{Command}
+use Rattle.ext_top.specs.declared.words.Command.TheVariants as command
+use Rattle.ext_top.specs.declared.status.Status.{Status}
+use Rattle.ext_top.specs.declared.status.Status.TheVariants as status
+use Rattle.ext_top.specs.Plays.{Ends}
+use Rattle.ext_top.specs.Shows.{Shows}
+use Rattle.ext_top.specs.declared.show.Kind.TheVariants as kind
+
+-- nothing was read or written
+abbrev pub IsRefused : Status → Option (List ℕ) → Option (List ℕ) → Option (List ℕ) → Option (List ℕ) → Type 0
+IsRefused s left left' written written' = (s ≡ status.Usage) × Keeps left left' × Keeps written written'
+
+-- What a command reads and writes, and how it ends. The words of a command that isn't built yet are none.
+abbrev pub RunsAs : Option Command → Status → Option (List ℕ) → Option (List ℕ) → Option (List ℕ) → Option (List ℕ) → Type 0
+RunsAs (Some command.Replay) s left left' written written' = Ends s left left' written written'
+RunsAs (Some command.ShowAnswer) s left left' written written' = Shows kind.Answer s left left' written written'
+RunsAs (Some command.ShowAsk) s left left' written written' = Shows kind.Ask s left left' written written'
+RunsAs other s left left' written written' = IsRefused s left left' written written'
+
+-- a command that is built
+abbrev pub IsBuilt : Option Command → Type 0
+IsBuilt (Some command.Replay) = Unit {0}
+IsBuilt (Some command.ShowAnswer) = Unit {0}
+IsBuilt (Some command.ShowAsk) = Unit {0}
+IsBuilt other = ⊥

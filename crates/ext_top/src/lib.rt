@@ -1,0 +1,25 @@
+//! The commands of the program, over any source and sink.
+#![tactic(auto)]
+
+mod laws;
+mod parse;
+mod replay;
+mod request;
+mod scan;
+mod show;
+mod stage;
+mod status;
+mod step;
+mod streams;
+#[cfg(test)]
+mod tests;
+mod texts;
+mod top;
+mod words;
+
+pub use laws::one_verdict;
+pub use parse::command;
+pub use stage::{Exchange, Met, Setup, Stage};
+pub use status::Status;
+pub use top::run;
+pub use words::{Address, Command};

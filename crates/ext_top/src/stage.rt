@@ -1,0 +1,55 @@
+//! Where a trace is.
+
+use ext_config::ConfigFault;
+use ext_msgs::FieldList;
+use header_mutation::Rules;
+use pb_wire::Blob;
+
+/// What a trace needs of its configuration.
+#[derive(Debug, Drop)]
+pub struct Setup {
+    /// The processor is asked about the head of a request.
+    pub asks: bool,
+    pub rules: Rules,
+    /// The greatest length of an answer in bytes.
+    pub answer_limit: u32,
+}
+
+/// Where the one exchange of a trace is.
+#[derive(Debug, Drop)]
+pub enum Exchange {
+    /// It isn't opened.
+    Unopened,
+    /// Nothing came from the client.
+    Opened,
+    /// The processor was asked about this head.
+    Asked(FieldList),
+    /// The request went to the upstream.
+    Passed,
+}
+
+/// Which line of a trace comes next.
+#[derive(Debug, Drop)]
+pub enum Stage {
+    /// The first line.
+    First,
+    /// The configuration.
+    Config,
+    /// An event.
+    Events(Setup, Exchange),
+    /// None: the trace was played.
+    End,
+}
+
+/// What a line comes to.
+#[derive(Debug, Drop)]
+pub enum Met {
+    /// It brings this text of the transcript, and leads on.
+    Goes(Blob, Stage),
+    /// It is no line of a trace, or may not stand there.
+    Faulty,
+    /// The configuration is refused.
+    Refused(ConfigFault),
+    /// It needs a form that isn't built yet.
+    Unbuilt,
+}

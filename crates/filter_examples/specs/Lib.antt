@@ -1,0 +1,9 @@
+pub mod Setting
+pub mod Reading
+pub mod Bodies
+pub mod Answering
+pub mod Ending
+pub mod Corners
+pub mod Growing
+pub mod Giving
+pub mod Halves

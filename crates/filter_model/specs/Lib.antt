@@ -1,0 +1,11 @@
+pub mod Config
+pub mod Course
+pub mod Outgoing
+pub mod Grown
+pub mod Half
+pub mod View
+pub mod Account
+pub mod Cut
+pub mod Answers
+pub mod Step
+pub mod Right

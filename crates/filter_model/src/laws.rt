@@ -1,0 +1,59 @@
+//! Laws of the definitions, as contracts of functions that do nothing.
+ghost use Rattle.ext_msgs.specs.Spelling.{ask};
+ghost use Rattle.filter_model.specs.Account.{Account, Live, course, is_finished};
+ghost use Rattle.filter_model.specs.Config.{FilterConfig};
+ghost use Rattle.filter_model.specs.Course.{Changed, changed};
+ghost use Rattle.filter_model.specs.Cut.{is_whole_and_done};
+ghost use Rattle.filter_model.specs.Grown.{Grown};
+ghost use Rattle.filter_model.specs.Outgoing.{IsWire};
+ghost use Rattle.filter_model.specs.Right.{Call, Headline, IsHistory, account, ask_given, is_done};
+ghost use Rattle.filter_model.specs.Step.{is_live, step};
+ghost use Rattle.filter_model.specs.View.{Entry, Lost};
+ghost use Rattle.filter_model.specs.declared.calls.Loss.{Loss};
+ghost use Rattle.filter_model.specs.declared.calls.Side.{Side};
+ghost use Rattle.http_model.specs.Bytes.{IsPrefix};
+ghost use Rattle.http_model.specs.declared.types.Direction.{Direction};
+ghost use Rattle.std.specs.Prelude.{List, map, reverse, filter_map, true, false, ◌∷◌, ◌≡◌, ◌≤◌, ◌+◌, ◌⊎◌, ℕ};
+
+/// In every history the asks that went out are the first of those made, in order.
+pub fn asks_in_order()
+    ensures { (c : FilterConfig) (h : List Call) → IsHistory c h →
+        IsPrefix (reverse (filter_map ask_given h)) (map ask (account c h).made) }
+{}
+
+/// Along a history what a message has become only grows: its head and framing stay, and an end is final.
+pub fn changed_only_grows()
+    ensures { (c : FilterConfig) (call : Call) (h : List Call) → IsHistory c (call ∷ h) → (d : Direction) →
+        Grown (changed c.course d (course d (account c h)))
+        (changed c.course d (course d (account c (call ∷ h)))) }
+{}
+
+/// Bytes that are the first of what a message may go out as stay so while it grows.
+pub fn prefixes_stay()
+    ensures { (d : Direction) (m m' : Changed) → Grown m m' → (bytes wire : List ℕ) →
+        IsWire d m wire → IsPrefix bytes wire → (wire' : List ℕ) × IsWire d m' wire' × IsPrefix bytes wire' }
+{}
+
+/// In every history of an exchange by itself it does right: what each side got is the first of what may go to it, the
+/// asks that went out are the first of those made, and the stream is ended at most once, as is due. And it gives all
+/// that is whole: once both messages have arrived, every ask is answered and nothing waits, both were given whole.
+pub fn headline()
+    ensures { Headline }
+{}
+
+/// What each entry leaves standing: asks that were made, and an end; a `Sent` counts for one ask; and a loss that leaves an
+/// exchange alive came behind everything, or to a side that was whole and done.
+pub fn each_step()
+    ensures asks { (c : FilterConfig) (e : Entry) (a : Account) → IsPrefix a.made (step c e a).made }
+    ensures fate { (c : FilterConfig) (e : Entry) (a : Account) → is_live a.fate ≡ false → (step c e a).fate ≡ a.fate }
+    ensures sent { (c : FilterConfig) (e : Entry) (a : Account) →
+        (a.sent ≤ (step c e a).sent) × ((step c e a).sent ≤ a.sent + 1) }
+    ensures loss { (c : FilterConfig) (s : Side) (how : Loss) (a : Account) → is_live a.fate ≡ true →
+        (step c (Lost s how) a).fate ≡ Live → (is_finished c a ≡ true) ⊎ (is_whole_and_done c a s ≡ true) }
+{}
+
+/// Once a side is done it stays so.
+pub fn done_stays()
+    ensures { (c : FilterConfig) (call : Call) (h : List Call) → IsHistory c (call ∷ h) → (s : Side) →
+        is_done c (account c h) s ≡ true → is_done c (account c (call ∷ h)) s ≡ true }
+{}

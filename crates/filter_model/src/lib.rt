@@ -1,0 +1,11 @@
+//! What the external processing filter does: what it asks, what a message becomes under the answers, and when an
+//! exchange is right.
+//!
+//! The definitions stand in `specs/`; read `Course` first, then `View`, `Account`, `Step` and `Right`.
+#![tactic(auto)]
+
+mod calls;
+mod laws;
+
+pub use calls::{Event, Loss, Next, Side, Taken};
+pub use laws::{asks_in_order, changed_only_grows, done_stays, each_step, headline, prefixes_stay};

@@ -1,0 +1,3 @@
+pub mod FieldsLeft
+pub mod Capped
+pub mod Digits

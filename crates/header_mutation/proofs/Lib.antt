@@ -1,0 +1,3 @@
+mod ItemLists
+mod NameTests
+mod Overwriting

@@ -1,0 +1,9 @@
+pub mod Shortest
+pub mod Groups
+pub mod Spelled
+pub mod Next
+pub mod Walk
+pub mod Canonical
+pub mod Written
+pub mod Faults
+pub mod Exact
