@@ -1,0 +1,9 @@
+//! The bytes of a body on their way through the filter: those at hand, those lent with an ask, and those that go out.
+#![tactic(auto)]
+
+mod hold;
+mod moves;
+#[cfg(test)]
+mod tests;
+
+pub use hold::{Change, Hold};

@@ -1,0 +1,5 @@
+pub mod SettingLists
+pub mod First
+pub mod Cuts
+pub mod Written
+pub mod Padded

@@ -1,0 +1,7 @@
+pub mod Numbers
+pub mod Headers
+pub mod Payloads
+pub mod Frames
+pub mod Spelling
+pub mod Reading
+pub mod Runs
