@@ -1,0 +1,10 @@
+pub mod IntegerLemmas
+pub mod IntegerLaws
+pub mod Codes
+pub mod Walks
+pub mod BitLemmas
+pub mod CodeTables
+pub mod Windows
+pub mod Decodings
+pub mod HuffmanLaws
+pub mod EncodeLemmas

@@ -1,0 +1,4 @@
+pub mod Integers
+pub mod Huffman
+pub mod Encoding
+pub mod Decoding
