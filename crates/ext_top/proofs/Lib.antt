@@ -1,4 +1,5 @@
 pub mod Fronts
+pub mod Clients
 pub mod Moved
 pub mod Plays
 pub mod Endings

@@ -1,59 +1,72 @@
 -- A play goes on by a line, is stopped, or halts.
-use Rattle.std.proofs.Common.{◌≡◌, ◌≢◌, ℕ, suc, suc-add, zero-add, ◌+◌, ◌<◌, Bool, true, false, List, [], ◌∷◌, ◌++◌, None, Some, Option, refl, sym, ap, ◌∙◌, append_assoc, append-nil, length, length-append, take, arith, subst}
+use Rattle.std.proofs.Common.{◌≡◌, ℕ, suc-add, zero-add, add-zero, ◌+◌, true, false, List, [], ◌∷◌, ◌++◌, Option, refl, sym, ap, ◌∙◌, append_assoc, append-nil, length, length-append, take, arith, subst}
 use Rattle.std.proofs.lemmas.Grind.{common_steps}
 use Rattle.std.specs.Io.KnownBytes.{Appends, Consumes}
 use Rattle.ext_top.specs.declared.stage.Stage.{Stage}
 use Rattle.ext_top.specs.declared.stage.Stage.TheVariants as stage
 use Rattle.ext_top.specs.declared.stage.Met.{Met}
 use Rattle.ext_top.specs.declared.stage.Met.TheVariants.{Goes}
-use Rattle.ext_top.specs.Moves.{IsShortLine, ReadsLine, ReadsNone, WritesSome}
+use Rattle.ext_top.specs.Moves.{room, IsShortLine, ReadsLine, ReadsNone, WritesSome}
 use Rattle.ext_top.specs.Replay.{meets}
 use Rattle.ext_top.specs.Plays.{Steps, joined, Played, StopsAt, Lacks, Halted, is_end}
 use Rattle.ext_top.proofs.Moved.{consumes_more, appends_more}
 
-steps_more : (s : Stage) (lines : List (List ℕ)) (out : List ℕ) (mid : Stage) (line text : List ℕ) (next : Stage)
-    → Steps s lines out mid → IsShortLine line → meets mid line ≡ Goes text next → Steps s (lines ++ line ∷ []) (out ++ text) next
-steps_more s [] out mid line text next a i b =
-    (text, next, [], i, subst (λ (x : Stage). meets x line ≡ Goes text next) a.1 b, (refl, refl), ap (λ (o : List ℕ). o ++ text) a.0 ∙ sym (append-nil text))
-steps_more s (l ∷ lines) out mid line text next a i b =
-    (a.0, a.1, a.2 ++ text, a.3, a.4, steps_more a.1 lines a.2 mid line text next a.5 i b, ap (λ (o : List ℕ). o ++ text) a.6 ∙ append_assoc a.0 a.2 text)
+-- the bytes behind the first line
+size_behind : (n : ℕ) (l : List ℕ) (lines : List (List ℕ)) → n + (length l + 1) + length (joined lines) ≡ n + length (joined (l ∷ lines))
+size_behind n l lines = rw (length-append l (10 ∷ joined lines)) (omega arith)
+
+steps_more : (n : ℕ) (s : Stage) (lines : List (List ℕ)) (out : List ℕ) (mid : Stage) (line text : List ℕ) (next : Stage)
+    → Steps n s lines out mid → IsShortLine (room (n + length (joined lines))) line → meets mid line ≡ Goes text next → Steps n s (lines ++ line ∷ []) (out ++ text) next
+steps_more n s [] out mid line text next a i b =
+    (text, next, [], subst (λ (k : ℕ). IsShortLine (room k) line) (add-zero n) i, subst (λ (x : Stage). meets x line ≡ Goes text next) a.1 b, (refl, refl), ap (λ (o : List ℕ). o ++ text) a.0 ∙ sym (append-nil text))
+steps_more n s (l ∷ lines) out mid line text next a i b =
+    let fits = subst (λ (k : ℕ). IsShortLine (room k) line) (sym (size_behind n l lines)) i in
+    (a.0, a.1, a.2 ++ text, a.3, a.4, steps_more (n + (length l + 1)) a.1 lines a.2 mid line text next a.5 fits b, ap (λ (o : List ℕ). o ++ text) a.6 ∙ append_assoc a.0 a.2 text)
 
 joined_more : (lines : List (List ℕ)) (line : List ℕ) → joined (lines ++ line ∷ []) ≡ joined lines ++ (line ++ 10 ∷ [])
 joined_more [] line = refl
 joined_more (l ∷ lines) line = ap (λ (x : List ℕ). l ++ 10 ∷ x) (joined_more lines line) ∙ sym (append_assoc l (10 ∷ joined lines) (line ++ 10 ∷ []))
 
-pub played_none : (l w : Option (List ℕ)) → Consumes l l [] → Appends w w [] → Played 0 l l w w stage.First
-played_none l w a b = record { lines = []; text = []; counted = refl; steps = (refl, refl); read = a; wrote = b }
+sized_more : (lines : List (List ℕ)) (line : List ℕ) (z y : ℕ) → length (joined lines) ≡ z → y ≡ length line → length (joined (lines ++ line ∷ [])) ≡ z + (y + 1)
+sized_more lines line z y e f = rw (joined_more lines line, length-append (joined lines) (line ++ 10 ∷ []), length-append line (10 ∷ [])) (omega (arith, e, f))
 
-pub played_more : (n : ℕ) (l0 l1 l2 w0 w1 w2 : Option (List ℕ)) (s next : Stage) (line text : List ℕ)
-    → Played n l0 l1 w0 w1 s → ReadsLine l1 l2 line → meets s line ≡ Goes text next → Appends w1 w2 text → Played (n + 1) l0 l2 w0 w2 next
-played_more n l0 l1 l2 w0 w1 w2 s next line text p r m a = record {
+-- a line behind the played ones fits
+fits_behind : (lines : List (List ℕ)) (line : List ℕ) (z : ℕ) → length (joined lines) ≡ z → IsShortLine (room z) line → IsShortLine (room (0 + length (joined lines))) line
+fits_behind lines line z e i = subst (λ (k : ℕ). IsShortLine (room k) line) (sym e ∙ sym (zero-add (length (joined lines)))) i
+
+pub played_none : (l w : Option (List ℕ)) → Consumes l l [] → Appends w w [] → Played 0 0 l l w w stage.First
+played_none l w a b = record { lines = []; text = []; counted = refl; sized = refl; steps = (refl, refl); read = a; wrote = b }
+
+pub played_more : (n z y : ℕ) (l0 l1 l2 w0 w1 w2 : Option (List ℕ)) (s next : Stage) (line text : List ℕ)
+    → Played n z l0 l1 w0 w1 s → ReadsLine (room z) l1 l2 line → y ≡ length line → meets s line ≡ Goes text next → Appends w1 w2 text → Played (n + 1) (z + (y + 1)) l0 l2 w0 w2 next
+played_more n z y l0 l1 l2 w0 w1 w2 s next line text p r e m a = record {
   lines = p.lines ++ line ∷ [];
   text = p.text ++ text;
   counted = length-append p.lines (line ∷ []) ∙ ap (λ (k : ℕ). k + 1) p.counted;
-  steps = steps_more stage.First p.lines p.text s line text next p.steps r.is_line m;
+  sized = sized_more p.lines line z y p.sized e;
+  steps = steps_more 0 stage.First p.lines p.text s line text next p.steps (fits_behind p.lines line z p.sized r.is_line) m;
   read = subst (λ (x : List ℕ). Consumes l0 l2 x) (sym (joined_more p.lines line)) (consumes_more l0 l1 l2 (joined p.lines) (line ++ 10 ∷ []) p.read r.read);
   wrote = appends_more w0 w1 w2 p.text text p.wrote a;
 }
 
-pub played_end : (n : ℕ) (l0 l1 w0 w1 : Option (List ℕ)) (s : Stage) → Played n l0 l1 w0 w1 s → is_end s ≡ true → Played n l0 l1 w0 w1 stage.End
-played_end n l0 l1 w0 w1 stage.First p e = absurd (cc)
-played_end n l0 l1 w0 w1 stage.Config p e = absurd (cc)
-played_end n l0 l1 w0 w1 (stage.Events setup x) p e = absurd (cc)
-played_end n l0 l1 w0 w1 stage.End p e = p
+pub played_end : (n z : ℕ) (l0 l1 w0 w1 : Option (List ℕ)) (s : Stage) → Played n z l0 l1 w0 w1 s → is_end s ≡ true → Played n z l0 l1 w0 w1 stage.End
+played_end n z l0 l1 w0 w1 stage.First p e = absurd (cc)
+played_end n z l0 l1 w0 w1 stage.Config p e = absurd (cc)
+played_end n z l0 l1 w0 w1 (stage.Events setup x) p e = absurd (cc)
+played_end n z l0 l1 w0 w1 stage.End p e = p
 
-pub stops_at : (m : Met) (n : ℕ) (l0 l1 l2 w0 w1 : Option (List ℕ)) (s : Stage) (line : List ℕ)
-    → Played n l0 l1 w0 w1 s → is_end s ≡ false → ReadsLine l1 l2 line → meets s line ≡ m → StopsAt m n l0 l2 w0 w1
-stops_at m n l0 l1 l2 w0 w1 s line p o r e = record { at = s; before = l1; played = p; unended = o; line = line; read = r; comes_to = e }
+pub stops_at : (m : Met) (n z : ℕ) (l0 l1 l2 w0 w1 : Option (List ℕ)) (s : Stage) (line : List ℕ)
+    → Played n z l0 l1 w0 w1 s → is_end s ≡ false → ReadsLine (room z) l1 l2 line → meets s line ≡ m → StopsAt m n l0 l2 w0 w1
+stops_at m n z l0 l1 l2 w0 w1 s line p o r e = record { at = s; size = z; before = l1; played = p; unended = o; line = line; read = r; comes_to = e }
 
-pub lacks : (n : ℕ) (l0 l1 l2 w0 w1 : Option (List ℕ)) (s : Stage) → Played n l0 l1 w0 w1 s → is_end s ≡ false → ReadsNone l1 l2 → Lacks n l0 l2 w0 w1
-lacks n l0 l1 l2 w0 w1 s p o r = record { at = s; before = l1; played = p; unended = o; none = r }
+pub lacks : (n z : ℕ) (l0 l1 l2 w0 w1 : Option (List ℕ)) (s : Stage) → Played n z l0 l1 w0 w1 s → is_end s ≡ false → ReadsNone (room z) l1 l2 → Lacks n l0 l2 w0 w1
+lacks n z l0 l1 l2 w0 w1 s p o r = record { at = s; size = z; before = l1; played = p; unended = o; none = r }
 
 all_taken : (xs : List ℕ) → take (length xs) xs ≡ xs
 all_taken xs = grind (arith, common_steps)
 
-pub halted_read : (n : ℕ) (l0 l1 l2 w0 w1 : Option (List ℕ)) (s : Stage) (bytes : List ℕ) → Played n l0 l1 w0 w1 s → Consumes l1 l2 bytes → Halted l0 l2 w0 w1
-halted_read n l0 l1 l2 w0 w1 s bytes p c = record {
+pub halted_read : (n z : ℕ) (l0 l1 l2 w0 w1 : Option (List ℕ)) (s : Stage) (bytes : List ℕ) → Played n z l0 l1 w0 w1 s → Consumes l1 l2 bytes → Halted l0 l2 w0 w1
+halted_read n z l0 l1 l2 w0 w1 s bytes p c = record {
   lines = p.lines;
   text = p.text;
   at = s;
@@ -68,13 +81,13 @@ front_taken : (xs ys : List ℕ) (n : ℕ) → xs ++ take n ys ≡ take (length 
 front_taken [] ys n = rw (zero-add n) refl
 front_taken (x ∷ xs) ys n = rw (suc-add (length xs) n) (ap (λ (l : List ℕ). x ∷ l) (front_taken xs ys n))
 
-pub halted_write : (n : ℕ) (l0 l1 l2 w0 w1 w2 : Option (List ℕ)) (s next : Stage) (line text : List ℕ)
-    → Played n l0 l1 w0 w1 s → ReadsLine l1 l2 line → meets s line ≡ Goes text next → WritesSome w1 w2 text → Halted l0 l2 w0 w2
-halted_write n l0 l1 l2 w0 w1 w2 s next line text p r m w = record {
+pub halted_write : (n z : ℕ) (l0 l1 l2 w0 w1 w2 : Option (List ℕ)) (s next : Stage) (line text : List ℕ)
+    → Played n z l0 l1 w0 w1 s → ReadsLine (room z) l1 l2 line → meets s line ≡ Goes text next → WritesSome w1 w2 text → Halted l0 l2 w0 w2
+halted_write n z l0 l1 l2 w0 w1 w2 s next line text p r m w = record {
   lines = p.lines ++ line ∷ [];
   text = p.text ++ text;
   at = next;
-  steps = steps_more stage.First p.lines p.text s line text next p.steps r.is_line m;
+  steps = steps_more 0 stage.First p.lines p.text s line text next p.steps (fits_behind p.lines line z p.sized r.is_line) m;
   bytes = [];
   read = subst (λ (x : List ℕ). Consumes l0 l2 x) (sym (joined_more p.lines line) ∙ sym (append-nil _)) (consumes_more l0 l1 l2 (joined p.lines) (line ++ 10 ∷ []) p.read r.read);
   count = length p.text + w.0;

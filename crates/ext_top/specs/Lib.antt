@@ -1,7 +1,6 @@
 pub mod Scan
 pub mod Commands
-pub mod Requests
-pub mod Kinds
+pub mod Clients
 pub mod Replay
 pub mod Moves
 pub mod Plays

@@ -1,33 +1,34 @@
 -- A trace that is played line by line, and how a run ends.
 use Rattle.std.specs.Prelude.{ℕ, ◌≡◌, ◌+◌, ◌⊎◌, List, [], ◌∷◌, ◌++◌, length, take, Option, Bool, true, false}
 use Rattle.std.specs.Io.KnownBytes.{Appends, Consumes, Keeps}
-use Rattle.ext_config.specs.declared.config.ConfigFault.{ConfigFault}
 use Rattle.ext_top.specs.declared.stage.Stage.{Stage}
 use Rattle.ext_top.specs.declared.stage.Stage.TheVariants as stage
 use Rattle.ext_top.specs.declared.stage.Met.{Met}
 use Rattle.ext_top.specs.declared.stage.Met.TheVariants.{Goes, Faulty, Refused, Unbuilt}
 use Rattle.ext_top.specs.declared.status.Status.{Status}
 use Rattle.ext_top.specs.declared.status.Status.TheVariants as status
-use Rattle.ext_top.specs.Moves.{IsShortLine, ReadsLine, ReadsNone}
+use Rattle.ext_top.specs.Moves.{room, IsShortLine, ReadsLine, ReadsNone}
 use Rattle.ext_top.specs.Replay.{meets}
 
--- These lines lead from a stage to another and bring this text.
-abbrev pub Steps : Stage → List (List ℕ) → List ℕ → Stage → Type 0
-Steps s [] text next = (text ≡ []) × (next ≡ s)
-Steps s (line ∷ lines) text next =
-    (first : List ℕ) × (mid : Stage) × (more : List ℕ) × IsShortLine line × (meets s line ≡ Goes first mid) × Steps mid lines more next × (text ≡ first ++ more)
+-- Behind so many bytes of the trace, these lines lead from a stage to another and bring this text.
+abbrev pub Steps : ℕ → Stage → List (List ℕ) → List ℕ → Stage → Type 0
+Steps before s [] text next = (text ≡ []) × (next ≡ s)
+Steps before s (line ∷ lines) text next =
+    (first : List ℕ) × (mid : Stage) × (more : List ℕ) × IsShortLine (room before) line × (meets s line ≡ Goes first mid)
+    × Steps (before + (length line + 1)) mid lines more next × (text ≡ first ++ more)
 
 -- the bytes of lines
 abbrev pub joined : List (List ℕ) → List ℕ
 joined [] = []
 joined (line ∷ lines) = line ++ 10 ∷ joined lines
 
--- So many lines were read, which lead to this stage, and all that they bring was written.
-pub record Played (count : ℕ) (left left' written written' : Option (List ℕ)) (s : Stage) : Type 0 where
+-- So many lines of so many bytes were read, which lead to this stage, and all that they bring was written.
+pub record Played (count size : ℕ) (left left' written written' : Option (List ℕ)) (s : Stage) : Type 0 where
   pub lines : List (List ℕ)
   pub text : List ℕ
   pub counted : length lines ≡ count
-  pub steps : Steps stage.First lines text s
+  pub sized : length (joined lines) ≡ size
+  pub steps : Steps 0 stage.First lines text s
   pub read : Consumes left left' (joined lines)
   pub wrote : Appends written written' text
 
@@ -41,27 +42,29 @@ is_end stage.End = true
 -- So many lines were played, and the next one comes to this.
 pub record StopsAt (m : Met) (count : ℕ) (left left' written written' : Option (List ℕ)) : Type 0 where
   pub at : Stage
+  pub size : ℕ
   pub before : Option (List ℕ)
-  pub played : Played count left before written written' at
+  pub played : Played count size left before written written' at
   pub unended : is_end at ≡ false
   pub line : List ℕ
-  pub read : ReadsLine before left' line
+  pub read : ReadsLine (room size) before left' line
   pub comes_to : meets at line ≡ m
 
--- So many lines were played, and no further one is there, or one that is too long.
+-- So many lines were played, and no further one is there, or one that is too long or ends behind the greatest length of a trace.
 pub record Lacks (count : ℕ) (left left' written written' : Option (List ℕ)) : Type 0 where
   pub at : Stage
+  pub size : ℕ
   pub before : Option (List ℕ)
-  pub played : Played count left before written written' at
+  pub played : Played count size left before written written' at
   pub unended : is_end at ≡ false
-  pub none : ReadsNone before left'
+  pub none : ReadsNone (room size) before left'
 
 -- What was written is the front of what the lines that were read bring.
 pub record Halted (left left' written written' : Option (List ℕ)) : Type 0 where
   pub lines : List (List ℕ)
   pub text : List ℕ
   pub at : Stage
-  pub steps : Steps stage.First lines text at
+  pub steps : Steps 0 stage.First lines text at
   pub bytes : List ℕ
   pub read : Consumes left left' (joined lines ++ bytes)
   pub count : ℕ
@@ -74,7 +77,7 @@ FailsAt n left left' written written' =
 
 -- what each status says of what a replay read and wrote
 abbrev pub Ends : Status → Option (List ℕ) → Option (List ℕ) → Option (List ℕ) → Option (List ℕ) → Type 0
-Ends status.Done left left' written written' = (count : ℕ) × Played count left left' written written' stage.End
+Ends status.Done left left' written written' = (count : ℕ) × (size : ℕ) × Played count size left left' written written' stage.End
 Ends (status.TraceFault n) left left' written written' = FailsAt n left left' written written'
 Ends (status.ConfigFault fault) left left' written written' = (count : ℕ) × StopsAt (Refused fault) count left left' written written'
 Ends status.NotBuilt left left' written written' = (count : ℕ) × StopsAt Unbuilt count left left' written written'

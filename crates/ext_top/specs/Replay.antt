@@ -17,7 +17,9 @@ use Rattle.ext_msgs.specs.Spelling.{ask}
 use Rattle.ext_msgs.specs.Messages.{answer_of}
 use Rattle.http_model.specs.declared.types.Direction.TheVariants.{Request}
 use Rattle.http_model.specs.declared.types.Framing.TheVariants.{NoField}
-use Rattle.http_model.specs.Wire.{head_bytes}
+use Rattle.http_model.specs.Wire.{head_bytes, local_reply}
+use Rattle.http_model.specs.Reading.{Reading, Whole, Partial, Bad, status_of}
+use Rattle.http_model.specs.Heads.{Head, is_bodiless, request_message}
 use Rattle.header_mutation.specs.declared.rules.PartKind.TheVariants.{RequestHead}
 use Rattle.header_mutation.specs.Mutated.{mutated, Outcome, Fields, Bad, Disallowed}
 use Rattle.ext_config.specs.declared.config.Config.{Config}
@@ -29,10 +31,9 @@ use Rattle.trace_format.specs.declared.out.OutLine.{OutLine}
 use Rattle.trace_format.specs.declared.out.OutLine.TheVariants as out
 use Rattle.trace_format.specs.Lines.{line_of}
 use Rattle.trace_format.specs.Transcripts.{text_of}
-use Rattle.ext_top.specs.Requests.{request_of, head_of}
 use Rattle.ext_top.specs.declared.stage.Setup.{Setup}
 use Rattle.ext_top.specs.declared.stage.Exchange.{Exchange}
-use Rattle.ext_top.specs.declared.stage.Exchange.TheVariants.{Unopened, Opened, Asked, Passed}
+use Rattle.ext_top.specs.declared.stage.Exchange.TheVariants.{Unopened, Reading as InHead, Asked, Passed, Ended}
 use Rattle.ext_top.specs.declared.stage.Stage.{Stage}
 use Rattle.ext_top.specs.declared.stage.Stage.TheVariants as stage
 use Rattle.ext_top.specs.declared.stage.Met.{Met}
@@ -74,15 +75,30 @@ given head = text_of_lines (out.ToUp 1 (head_bytes Request head NoField) ∷ out
 unfoldable pub asked : List Field → List ℕ
 asked head = text_of_lines (out.Ask 1 (ask (RequestHeaders head true)) ∷ [])
 
-abbrev pub requested : Setup → Option (List ℕ × List ℕ) → Met
-requested setup None = Unbuilt
-requested setup (Some parts) =
-    if setup.asks then Goes (asked (head_of parts.0 parts.1)) (stage.Events setup (Asked (head_of parts.0 parts.1)))
-    else Goes (given (head_of parts.0 parts.1)) (stage.Events setup Passed)
+-- the client gets a reply of the proxy's own with this status, and the upstream isn't reached
+unfoldable pub replied : ℕ → List ℕ
+replied code = text_of_lines (out.ToClient 1 (local_reply code) ∷ out.DoneClient 1 ∷ out.AbortUp 1 ∷ [])
 
+-- the whole head of a request; one with a body isn't played yet
+abbrev pub requested : Setup → Head → Met
+requested setup h =
+    if is_bodiless h.length
+    then (if setup.asks then Goes (asked h.fields) (stage.Events setup (Asked h.fields)) else Goes (given h.fields) (stage.Events setup Passed))
+    else Unbuilt
+
+-- what the bytes of the head so far give
+abbrev pub read_on : Setup → List ℕ → Reading Head → Met
+read_on setup so_far (Whole h rest) = requested setup h
+read_on setup so_far Partial = Goes [] (stage.Events setup (InHead so_far))
+read_on setup so_far (Bad f) = Goes (replied (status_of f)) (stage.Events setup Ended)
+
+-- bytes behind a whole head wait, and those behind the end have no effect
 unfoldable pub arrived : Setup → Exchange → List ℕ → Met
-arrived setup Opened bytes = requested setup (request_of bytes)
-arrived setup other bytes = Unbuilt
+arrived setup Unopened bytes = Unbuilt
+arrived setup (InHead so_far) bytes = read_on setup (so_far ++ bytes) (request_message (so_far ++ bytes))
+arrived setup (Asked head) bytes = Goes [] (stage.Events setup (Asked head))
+arrived setup Passed bytes = Goes [] (stage.Events setup Passed)
+arrived setup Ended bytes = Goes [] (stage.Events setup Ended)
 
 -- ---- the processor's answer
 
@@ -130,16 +146,17 @@ answered setup other bytes = Unbuilt
 
 abbrev pub is_opened : Exchange → Bool
 is_opened Unopened = false
-is_opened Opened = true
+is_opened (InHead so_far) = true
 is_opened (Asked head) = true
 is_opened Passed = true
+is_opened Ended = true
 
 -- an event of an exchange that was opened
 abbrev pub of_exchange : Exchange → ℕ → Met → Met
 of_exchange exchange x met = if is_opened exchange && x == 1 then met else Faulty
 
 abbrev pub opening : Setup → Exchange → Met
-opening setup Unopened = Goes [] (stage.Events setup Opened)
+opening setup Unopened = Goes [] (stage.Events setup (InHead []))
 opening setup other = Unbuilt
 
 -- An event line. Those of the processor's link stand in a trace of bytes alone.

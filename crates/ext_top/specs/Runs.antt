@@ -1,5 +1,5 @@
 -- What each command does with its source and its sink.
-use Rattle.std.specs.Prelude.{ℕ, ◌≡◌, List, Option, Some, None}
+use Rattle.std.specs.Prelude.{ℕ, ◌≡◌, List, Option, Some}
 use Rattle.std.specs.Io.KnownBytes.{Keeps}
 use Rattle.ext_top.specs.declared.words.Command.{Command}
 use Rattle.ext_top.specs.declared.words.Command.TheVariants as command

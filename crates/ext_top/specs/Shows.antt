@@ -16,7 +16,7 @@ use Rattle.ext_top.specs.declared.status.Status.{Status}
 use Rattle.ext_top.specs.declared.status.Status.TheVariants as status
 use Rattle.ext_top.specs.declared.show.Kind.{Kind}
 use Rattle.ext_top.specs.declared.show.Kind.TheVariants as kind
-use Rattle.ext_top.specs.Moves.{ReadsLine, ReadsNone, ReadsSome, WritesSome}
+use Rattle.ext_top.specs.Moves.{line_limit, ReadsLine, ReadsNone, ReadsSome, WritesSome}
 
 -- a fault, and the place of the record that has it
 abbrev pub refused_at : List ℕ → ℕ → List ℕ
@@ -63,19 +63,19 @@ shown kind.Ask bytes = shown_ask bytes
 -- A line was read, and it is digits of these bytes.
 pub record Given (left left' : Option (List ℕ)) (bytes : List ℕ) : Type 0 where
   pub line : List ℕ
-  pub read : ReadsLine left left' line
+  pub read : ReadsLine line_limit left left' line
   pub digits : bytes_of line ≡ Some bytes
 
 -- No line was read, or one that isn't such digits.
 pub record NotGiven (left left' : Option (List ℕ)) : Type 0 where
   pub line : List ℕ
-  pub read : ReadsLine left left' line
+  pub read : ReadsLine line_limit left left' line
   pub no_digits : bytes_of line ≡ None
 
 -- what each status says of what a show read and wrote
 abbrev pub Shows : Kind → Status → Option (List ℕ) → Option (List ℕ) → Option (List ℕ) → Option (List ℕ) → Type 0
 Shows k status.Done left left' written written' = (bytes : List ℕ) × Given left left' bytes × Appends written written' (shown k bytes ++ 10 ∷ [])
-Shows k (status.TraceFault n) left left' written written' = (n ≡ 1) × Keeps written written' × (ReadsNone left left' ⊎ NotGiven left left')
+Shows k (status.TraceFault n) left left' written written' = (n ≡ 1) × Keeps written written' × (ReadsNone line_limit left left' ⊎ NotGiven left left')
 Shows k status.ReadFault left left' written written' = ReadsSome left left' × Keeps written written'
 Shows k status.WriteFault left left' written written' = (bytes : List ℕ) × Given left left' bytes × WritesSome written written' (shown k bytes ++ 10 ∷ [])
 Shows k status.Memory left left' written written' = ReadsSome left left' × Keeps written written'

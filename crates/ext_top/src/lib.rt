@@ -1,10 +1,10 @@
 //! The commands of the program, over any source and sink.
 #![tactic(auto)]
 
+mod client;
 mod laws;
 mod parse;
 mod replay;
-mod request;
 mod scan;
 mod show;
 mod stage;
@@ -17,6 +17,7 @@ mod texts;
 mod top;
 mod words;
 
+pub use client::RequestReader;
 pub use laws::one_verdict;
 pub use parse::command;
 pub use stage::{Exchange, Met, Setup, Stage};

@@ -2,14 +2,26 @@
 
 ghost use Rattle.std.specs.Prelude.{◌≡◌, ◌≢◌, ◌≤◌};
 ghost use Rattle.px_edge.specs.Causes.{Rose};
+ghost use Rattle.ext_top.specs.Moves.{room};
 ghost use Rattle.ext_top.specs.Plays.{Ends, is_end};
 
 use crate::stage::{Met, Stage};
 use crate::status::Status;
 use crate::step::step;
-use crate::streams::{Stop, read_line, write_all};
+use crate::streams::{LINE_LIMIT, Stop, read_line, write_all};
 use px_edge::{Sink, Source};
 use std::alloc::Global;
+
+/// The greatest length of a trace in bytes.
+const TRACE_LIMIT: usize = 1 << 30;
+
+// How many bytes the next line may have, with its line feed.
+fn room(before: usize) -> usize
+    ensures { result ≡ room before }
+{
+    let left = TRACE_LIMIT.saturating_sub(before);
+    if left < LINE_LIMIT { left } else { LINE_LIMIT }
+}
 
 // Whether no line comes any more.
 fn at_end(stage: &Stage) -> bool
@@ -28,11 +40,12 @@ pub(crate) fn replay<S: Source, K: Sink>(alloc: Global, source: &mut S, sink: &m
     ensures later_sink { K.faults sink.old ≤ K.faults sink.new }
 {
     let mut stage = Stage::First;
+    let mut size = 0;
     'lines: for count in 0..u64::MAX {
         if at_end(&stage) {
             return Status::Done;
         }
-        let line = match read_line(alloc, source) {
+        let line = match read_line(alloc, source, room(size)) {
             Ok(Some(line)) => line,
             Ok(None) => return Status::TraceFault(count + 1),
             Err(Stop::Read) => return Status::ReadFault,
@@ -49,6 +62,7 @@ pub(crate) fn replay<S: Source, K: Sink>(alloc: Global, source: &mut S, sink: &m
             Ok(()) => stage = next,
             Err(_) => return Status::WriteFault,
         }
+        size += line.len() + 1;
     }
     // More lines than there are numbers for them.
     Status::Memory

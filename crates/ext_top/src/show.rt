@@ -6,7 +6,7 @@ ghost use Rattle.ext_msgs.specs.declared.fault.MsgFault.TheVariants.{Memory};
 ghost use Rattle.ext_top.specs.Shows.{Shows, canonical as canonical_text, refused, refused_at as refused_text, refused_wire as refused_bytes, shown, shown_answer, shown_ask};
 
 use crate::status::Status;
-use crate::streams::{Stop, read_line, write_all};
+use crate::streams::{LINE_LIMIT, Stop, read_line, write_all};
 use ext_msgs::{MsgFault, read_answer, read_ask, write_answer, write_ask};
 use pb_wire::{Blob, WireFault};
 use px_edge::{Sink, Source};
@@ -120,7 +120,7 @@ pub(crate) fn show<S: Source, K: Sink>(
     ensures read { result ≡ Status.ReadFault → Rose (S.faults source.old) (S.faults source.new) }
     ensures write { result ≡ Status.WriteFault → Rose (K.faults sink.old) (K.faults sink.new) }
 {
-    let line = match read_line(alloc, source) {
+    let line = match read_line(alloc, source, LINE_LIMIT) {
         Ok(Some(line)) => line,
         Ok(None) => return Status::TraceFault(1),
         Err(Stop::Read) => return Status::ReadFault,

@@ -1,5 +1,6 @@
 //! Where a trace is.
 
+use crate::client::RequestReader;
 use ext_config::ConfigFault;
 use ext_msgs::FieldList;
 use header_mutation::Rules;
@@ -20,12 +21,14 @@ pub struct Setup {
 pub enum Exchange {
     /// It isn't opened.
     Unopened,
-    /// Nothing came from the client.
-    Opened,
+    /// The head of the client's request isn't whole.
+    Reading(RequestReader),
     /// The processor was asked about this head.
     Asked(FieldList),
     /// The request went to the upstream.
     Passed,
+    /// The client got a reply of the proxy's own.
+    Ended,
 }
 
 /// Which line of a trace comes next.

@@ -2,13 +2,12 @@
 
 ghost use Rattle.std.specs.Prelude.{◌≡◌, ◌<◌, ◌^◌, ◌&&◌, ◌==◌, length, IfOk};
 ghost use Rattle.ext_config.specs.Configured.{configured};
-ghost use Rattle.ext_top.specs.Replay.{accepted, answered, arrived, begun, configured_by, continued, event, is_opened, is_simple as simple, is_streamed as streamed, is_unasked as unasked, meets, met, of_exchange, opening, plain_answer, requested, settled, setup_of, told};
-ghost use Rattle.ext_top.specs.Requests.{request_of};
+ghost use Rattle.ext_top.specs.Replay.{accepted, answered, arrived, begun, configured_by, continued, event, is_opened, is_simple as simple, is_streamed as streamed, is_unasked as unasked, meets, met, of_exchange, opening, plain_answer, settled, setup_of, told};
 ghost use Rattle.ext_top.specs.declared.stage.Met.TheVariants.{Unbuilt};
 
-use crate::request::{request_head, request_parts};
+use crate::client::{RequestReader, client};
 use crate::stage::{Exchange, Met, Setup, Stage};
-use crate::texts::{ask_lines, end_line, upstream_lines};
+use crate::texts::{end_line, upstream_lines};
 use ext_config::{Config, ConfigFault, read_config};
 use ext_msgs::{Answer, BodyChange, BodyMode, Common, FieldList, Member, MsgFault, read_answer};
 use header_mutation::{MutFault, PartKind, apply};
@@ -59,33 +58,6 @@ fn configure(alloc: Global, text: &Blob) -> Result<Met, AllocError>
         }
         Err(ConfigFault::Memory) => Err(AllocError),
         Err(fault) => Ok(Met::Refused(fault)),
-    }
-}
-
-// The client's bytes, where they are a request that is replayed.
-fn request(alloc: Global, setup: Setup, bytes: &Blob) -> Result<Met, AllocError>
-    ensures { IfOk result (λ m. m ≡ requested setup (request_of bytes.now)) }
-{
-    let Some((target, host)) = request_parts(bytes.bytes()) else {
-        return Ok(Met::Unbuilt);
-    };
-    let head = request_head(alloc, target, host)?;
-    if setup.asks {
-        let text = ask_lines(alloc, &head)?;
-        Ok(Met::Goes(text, Stage::Events(setup, Exchange::Asked(head))))
-    } else {
-        let text = upstream_lines(alloc, &head)?;
-        Ok(Met::Goes(text, Stage::Events(setup, Exchange::Passed)))
-    }
-}
-
-#[tactic(auto, unfolding(crate::specs::Replay::arrived))]
-fn client(alloc: Global, setup: Setup, exchange: &Exchange, bytes: &Blob) -> Result<Met, AllocError>
-    ensures { IfOk result (λ m. m ≡ arrived setup exchange.now bytes.now) }
-{
-    match exchange {
-        Exchange::Opened => request(alloc, setup, bytes),
-        _ => Ok(Met::Unbuilt),
     }
 }
 
@@ -152,8 +124,8 @@ fn judge(alloc: Global, setup: Setup, head: &FieldList, bytes: &Blob) -> Result<
 
 // The processor's answer.
 #[tactic(auto, unfolding(crate::specs::Replay::answered))]
-fn answer(alloc: Global, setup: Setup, exchange: &Exchange, bytes: &Blob) -> Result<Met, AllocError>
-    ensures { IfOk result (λ m. m ≡ answered setup exchange.now bytes.now) }
+fn answer(alloc: Global, setup: Setup, exchange: Exchange, bytes: &Blob) -> Result<Met, AllocError>
+    ensures { IfOk result (λ m. m ≡ answered setup exchange bytes.now) }
 {
     let Exchange::Asked(head) = exchange else {
         return Ok(Met::Unbuilt);
@@ -161,7 +133,7 @@ fn answer(alloc: Global, setup: Setup, exchange: &Exchange, bytes: &Blob) -> Res
     if bytes.len() > setup.answer_limit as usize {
         return Ok(Met::Unbuilt);
     }
-    judge(alloc, setup, head, bytes)
+    judge(alloc, setup, &head, bytes)
 }
 
 fn is_open(exchange: &Exchange) -> bool
@@ -188,25 +160,29 @@ fn unbuilt_of(exchange: &Exchange, x: u32) -> Met
     }
 }
 
-fn open(alloc: Global, setup: Setup, exchange: &Exchange) -> Met
-    ensures { result ≡ opening setup exchange.now }
+fn open(alloc: Global, setup: Setup, exchange: &Exchange) -> Result<Met, AllocError>
+    ensures { IfOk result (λ m. m ≡ opening setup exchange.now) }
 {
-    match exchange {
-        Exchange::Unopened => Met::Goes(Blob::new(alloc), Stage::Events(setup, Exchange::Opened)),
-        _ => Met::Unbuilt,
+    if is_open(exchange) {
+        return Ok(Met::Unbuilt);
     }
+    let reader = RequestReader::new(alloc)?;
+    Ok(Met::Goes(
+        Blob::new(alloc),
+        Stage::Events(setup, Exchange::Reading(reader)),
+    ))
 }
 
 fn client_of(
     alloc: Global,
     setup: Setup,
-    exchange: &Exchange,
+    exchange: Exchange,
     x: u32,
     bytes: &Blob,
 ) -> Result<Met, AllocError>
-    ensures { IfOk result (λ m. m ≡ of_exchange exchange.now x (arrived setup exchange.now bytes.now)) }
+    ensures { IfOk result (λ m. m ≡ of_exchange exchange x (arrived setup exchange bytes.now)) }
 {
-    if is_of(exchange, x) {
+    if is_of(&exchange, x) {
         client(alloc, setup, exchange, bytes)
     } else {
         Ok(Met::Faulty)
@@ -216,13 +192,13 @@ fn client_of(
 fn answer_of(
     alloc: Global,
     setup: Setup,
-    exchange: &Exchange,
+    exchange: Exchange,
     x: u32,
     bytes: &Blob,
 ) -> Result<Met, AllocError>
-    ensures { IfOk result (λ m. m ≡ of_exchange exchange.now x (answered setup exchange.now bytes.now)) }
+    ensures { IfOk result (λ m. m ≡ of_exchange exchange x (answered setup exchange bytes.now)) }
 {
-    if is_of(exchange, x) {
+    if is_of(&exchange, x) {
         answer(alloc, setup, exchange, bytes)
     } else {
         Ok(Met::Faulty)
@@ -234,26 +210,26 @@ fn answer_of(
 fn event_line(
     alloc: Global,
     setup: Setup,
-    exchange: &Exchange,
+    exchange: Exchange,
     line: &TraceLine,
 ) -> Result<Met, AllocError>
-    ensures { IfOk result (λ m. m ≡ event setup exchange.now line.now) }
+    ensures { IfOk result (λ m. m ≡ event setup exchange line.now) }
 {
     match line {
-        TraceLine::Open => Ok(open(alloc, setup, exchange)),
+        TraceLine::Open => open(alloc, setup, &exchange),
         TraceLine::Client(x, bytes) => client_of(alloc, setup, exchange, *x, bytes),
         TraceLine::Answer(x, bytes) => answer_of(alloc, setup, exchange, *x, bytes),
-        TraceLine::Up(x, _) => Ok(unbuilt_of(exchange, *x)),
-        TraceLine::ClientEnd(x) => Ok(unbuilt_of(exchange, *x)),
-        TraceLine::UpEnd(x) => Ok(unbuilt_of(exchange, *x)),
-        TraceLine::ClientLost(x) => Ok(unbuilt_of(exchange, *x)),
-        TraceLine::UpLost(x) => Ok(unbuilt_of(exchange, *x)),
-        TraceLine::UpNoDial(x) => Ok(unbuilt_of(exchange, *x)),
-        TraceLine::Close(x, _) => Ok(unbuilt_of(exchange, *x)),
-        TraceLine::HoldClient(x) => Ok(unbuilt_of(exchange, *x)),
-        TraceLine::HoldUp(x) => Ok(unbuilt_of(exchange, *x)),
-        TraceLine::FreeClient(x) => Ok(unbuilt_of(exchange, *x)),
-        TraceLine::FreeUp(x) => Ok(unbuilt_of(exchange, *x)),
+        TraceLine::Up(x, _) => Ok(unbuilt_of(&exchange, *x)),
+        TraceLine::ClientEnd(x) => Ok(unbuilt_of(&exchange, *x)),
+        TraceLine::UpEnd(x) => Ok(unbuilt_of(&exchange, *x)),
+        TraceLine::ClientLost(x) => Ok(unbuilt_of(&exchange, *x)),
+        TraceLine::UpLost(x) => Ok(unbuilt_of(&exchange, *x)),
+        TraceLine::UpNoDial(x) => Ok(unbuilt_of(&exchange, *x)),
+        TraceLine::Close(x, _) => Ok(unbuilt_of(&exchange, *x)),
+        TraceLine::HoldClient(x) => Ok(unbuilt_of(&exchange, *x)),
+        TraceLine::HoldUp(x) => Ok(unbuilt_of(&exchange, *x)),
+        TraceLine::FreeClient(x) => Ok(unbuilt_of(&exchange, *x)),
+        TraceLine::FreeUp(x) => Ok(unbuilt_of(&exchange, *x)),
         TraceLine::Tick(_) => Ok(Met::Unbuilt),
         TraceLine::HoldExt => Ok(Met::Unbuilt),
         TraceLine::FreeExt => Ok(Met::Unbuilt),
@@ -296,7 +272,7 @@ fn known_line(alloc: Global, stage: Stage, line: &TraceLine) -> Result<Met, Allo
     match stage {
         Stage::First => Ok(first_line(alloc, line)),
         Stage::Config => config_line(alloc, line),
-        Stage::Events(setup, exchange) => event_line(alloc, setup, &exchange, line),
+        Stage::Events(setup, exchange) => event_line(alloc, setup, exchange, line),
         Stage::End => Ok(Met::Faulty),
     }
 }

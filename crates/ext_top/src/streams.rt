@@ -29,18 +29,22 @@ fn read_byte<S: Source>(source: &mut S) -> Result<Option<u8>, Failed>
     }
 }
 
-/// The greatest length of a line in bytes, without its line feed.
-const LINE_LIMIT: usize = 4_259_840;
+/// The greatest length of a line in bytes, with its line feed.
+pub(crate) const LINE_LIMIT: usize = 4_259_841;
 
-/// The next line, without its line feed, or none where the source ends before one or the line is too long.
-pub(crate) fn read_line<S: Source>(alloc: Global, source: &mut S) -> Result<Option<Vec<u8>>, Stop>
-    ensures line { IfOk result (λ o. MatchOption o (ReadsNone (S.left source.old) (S.left source.new)) (λ line. ReadsLine (S.left source.old) (S.left source.new) line.items)) }
+/// The next line, without its line feed, or none where the source ends before one or it has more bytes than `most` with its line feed.
+pub(crate) fn read_line<S: Source>(
+    alloc: Global,
+    source: &mut S,
+    most: usize,
+) -> Result<Option<Vec<u8>>, Stop>
+    ensures line { IfOk result (λ o. MatchOption o (ReadsNone most (S.left source.old) (S.left source.new)) (λ line. ReadsLine most (S.left source.old) (S.left source.new) line.items)) }
     ensures some { OnErr result (ReadsSome (S.left source.old) (S.left source.new)) }
     ensures later { S.faults source.old ≤ S.faults source.new }
     ensures cause { IsErrOf result Stop.Read → Rose (S.faults source.old) (S.faults source.new) }
 {
     let mut line = Vec::new(alloc);
-    'bytes: while line.len() <= LINE_LIMIT {
+    'bytes: while line.len() < most {
         match read_byte(source) {
             Ok(Some(b'\n')) => return Ok(Some(line)),
             Ok(Some(byte)) => {

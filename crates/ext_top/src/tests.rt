@@ -76,6 +76,108 @@ fn answers_add_a_header_or_nothing(rt: HostRuntime) -> Result<(), Fail> {
     Ok(())
 }
 
+// A head may come in any cut, and what comes behind it waits.
+#[test]
+fn heads_come_in_pieces(rt: HostRuntime) -> Result<(), Fail> {
+    let trace: [&[u8]; 5] = [
+        FIRST,
+        HEADERS_ALONE,
+        b"open\nclient 1 474554202f20485454502f312e310d0a48\nclient 1 6f73743a20610d0a0d\nclient 1 0a474554\nclient 1 47\n",
+        ADDS_HEADER,
+        b"client 1 47\nstop\n",
+    ];
+    let wanted: [&[u8]; 3] = [ASK, WITH_HEADER, b"end\n"];
+    let status = runs(
+        &rt,
+        rt.alloc(),
+        REPLAY.as_slice(),
+        trace.as_slice(),
+        wanted.as_slice(),
+    )?;
+    assert!(rt; matches!(status, Status::Done));
+    Ok(())
+}
+
+// The lines of a reply with this head.
+fn replied(alloc: Global, reply: &[u8]) -> Result<Vec<u8>, Fail> {
+    let digits = b"0123456789abcdef";
+    let mut text = Vec::new(alloc);
+    text.extend_from_slice(b"to-client 1 ")?;
+    for byte in reply {
+        text.push(digits[usize::from(*byte >> 4)])?;
+        text.push(digits[usize::from(*byte & 15)])?;
+    }
+    text.extend_from_slice(b"\ndone client 1\nabort up 1\nend\n")?;
+    Ok(text)
+}
+
+// A client's bytes as a line, in hexadecimal digits.
+fn client_line(alloc: Global, bytes: &[u8]) -> Result<Vec<u8>, Fail> {
+    let digits = b"0123456789ABCDEF";
+    let mut text = Vec::new(alloc);
+    text.extend_from_slice(b"open\nclient 1 ")?;
+    for byte in bytes {
+        text.push(digits[usize::from(*byte >> 4)])?;
+        text.push(digits[usize::from(*byte & 15)])?;
+    }
+    text.extend_from_slice(b"\nclient 1 47\nstop\n")?;
+    Ok(text)
+}
+
+fn refuses(rt: &impl Abort, alloc: Global, request: &[u8], reply: &[u8]) -> Result<(), Fail> {
+    let line = client_line(alloc, request)?;
+    let trace: [&[u8]; 3] = [FIRST, HEADERS_ALONE, line.as_slice()];
+    let lines = replied(alloc, reply)?;
+    let wanted: [&[u8]; 1] = [lines.as_slice()];
+    let status = runs(
+        rt,
+        alloc,
+        REPLAY.as_slice(),
+        trace.as_slice(),
+        wanted.as_slice(),
+    )?;
+    assert!(rt; matches!(status, Status::Done));
+    Ok(())
+}
+
+// A request that can't be taken gets a reply of the proxy's own, and no upstream is reached.
+#[test]
+fn faulty_requests_get_a_local_reply(rt: HostRuntime) -> Result<(), Fail> {
+    let alloc = rt.alloc();
+    let bad =
+        b"HTTP/1.1 400 Bad Request\r\ncontent-length: 0\r\nconnection: close\r\n\r\n".as_slice();
+    refuses(&rt, alloc, b"GET / HTTP/1.1\r\n\r\n", bad)?;
+    refuses(
+        &rt,
+        alloc,
+        b"POST / HTTP/1.1\r\nHost: a\r\nContent-Length: 1\r\nTransfer-Encoding: chunked\r\n\r\n",
+        bad,
+    )?;
+    refuses(
+        &rt,
+        alloc,
+        b"GET / HTTP/1.0\r\n\r\n",
+        b"HTTP/1.1 505 HTTP Version Not Supported\r\ncontent-length: 0\r\nconnection: close\r\n\r\n",
+    )?;
+    refuses(
+        &rt,
+        alloc,
+        b"CONNECT a:1 HTTP/1.1\r\nHost: a\r\n\r\n",
+        b"HTTP/1.1 501 Not Implemented\r\ncontent-length: 0\r\nconnection: close\r\n\r\n",
+    )?;
+    let mut long = Vec::new(alloc);
+    long.extend_from_slice(b"GET / HTTP/1.1\r\nHost: a\r\nx: ")?;
+    for _ in 0..32_768 {
+        long.push(b'x')?;
+    }
+    refuses(
+        &rt,
+        alloc,
+        long.as_slice(),
+        b"HTTP/1.1 431 Request Header Fields Too Large\r\ncontent-length: 0\r\nconnection: close\r\n\r\n",
+    )
+}
+
 // Without an ask the request passes at once.
 #[test]
 fn skipped_headers_are_not_asked(rt: HostRuntime) -> Result<(), Fail> {

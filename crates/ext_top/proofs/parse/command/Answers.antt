@@ -1,4 +1,4 @@
-use Rattle.std.proofs.Common.{◌≡◌, ℕ, ◌<◌, ◌≤◌, List, [], ◌∷◌, length, map, None, refl, sym, arith}
+use Rattle.std.proofs.Common.{◌≡◌, ℕ, ◌≤◌, List, [], ◌∷◌, length, map, None, refl, sym, arith}
 use Rattle.std.proofs.lemmas.List.{length-map}
 use Rattle.ext_top.specs.Commands.{command_of}
 use Rattle.ext_top.proofs.parse.command.Goals as goal

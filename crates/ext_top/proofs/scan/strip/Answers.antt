@@ -1,4 +1,4 @@
-use Rattle.std.proofs.Common.{◌≡◌, sym, ap, ◌∙◌, List, ℕ}
+use Rattle.std.proofs.Common.{sym, ap, ◌∙◌, List, ℕ}
 use Rattle.ext_top.specs.Scan.{stripped}
 use Rattle.ext_top.proofs.Fronts.{stripped_some, stripped_none}
 use Rattle.ext_top.proofs.scan.strip.Goals as goal

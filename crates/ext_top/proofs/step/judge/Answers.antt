@@ -1,6 +1,6 @@
 use Rattle.std.proofs.Common.{◌≡◌, Ok, sym, ap, ◌∙◌, List, ℕ, refl}
 use Rattle.ext_msgs.specs.Messages.{answer_of}
-use Rattle.ext_top.specs.Replay.{told, accepted}
+use Rattle.ext_top.specs.Replay.{told}
 use Rattle.ext_top.proofs.step.judge.Goals as goal
 
 told_is : (bytes : List ℕ) → told bytes ≡ answer_of bytes

@@ -1,6 +1,6 @@
-use Rattle.std.proofs.Common.{◌≡◌, ◌≤◌, ◌-◌, ◌+◌, length, vec_len}
+use Rattle.std.proofs.Common.{◌≤◌, ◌-◌, vec_len}
 use Rattle.std.specs.Io.KnownBytes.{Consumes}
-use Rattle.ext_top.specs.Moves.{IsLine, line_limit}
+use Rattle.ext_top.specs.Moves.{IsLine}
 use Rattle.ext_top.proofs.streams.read_line.Given as goal
 
 -- what was read is the line so far
@@ -8,9 +8,9 @@ abbrev pub invariant-bytes : goal.invariant-bytes
 invariant-bytes g l = record {
   consumed : Consumes (g.S.Source.left l.fn.source) (g.S.Source.left l.source) l.line.items;
   whole : IsLine l.line.items;
-  bound : vec_len l.line ≤ line_limit + 1;
+  bound : vec_len l.line ≤ l.fn.most;
   later : g.S.Source.faults l.fn.source ≤ g.S.Source.faults l.source;
 }
 
 abbrev pub decreases-bytes : goal.decreases-bytes
-decreases-bytes g l = (line_limit + 1) - vec_len l.line
+decreases-bytes g l = l.fn.most - vec_len l.line

@@ -1,0 +1,9 @@
+use Rattle.std.proofs.Common.{◌≡◌, ◌≤◌, length, take}
+use Rattle.http_model.specs.Bytes.{trim_end}
+use Rattle.h1_read.proofs.text.trim_end.Given as goal
+
+abbrev pub invariant-loop-len : goal.invariant-loop-len
+invariant-loop-len l = record { in_range : l.len ≤ length l.text; same : trim_end l.text ≡ trim_end (take l.len l.text) }
+
+abbrev pub decreases-loop-len : goal.decreases-loop-len
+decreases-loop-len l = l.len

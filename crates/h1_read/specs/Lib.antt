@@ -1,0 +1,15 @@
+pub mod Agreement
+pub mod Limits
+pub mod Parsed
+pub mod Sections
+pub mod HeadParts
+pub mod Lengths
+pub mod Targets
+pub mod Messages
+pub mod Steps
+pub mod HeadReading
+pub mod SizeLine
+pub mod KeptSections
+pub mod Remaining
+pub mod Stages
+pub mod Written
