@@ -1,0 +1,6 @@
+pub mod Setting
+pub mod Windows
+pub mod Violations
+pub mod StreamFaults
+pub mod Outgoing
+pub mod Decoded
