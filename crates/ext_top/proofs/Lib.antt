@@ -3,3 +3,4 @@ pub mod Clients
 pub mod Moved
 pub mod Plays
 pub mod Endings
+pub mod ShownFrames

@@ -4,5 +4,6 @@ pub mod Clients
 pub mod Replay
 pub mod Moves
 pub mod Plays
+pub mod ShownFrames
 pub mod Shows
 pub mod Runs

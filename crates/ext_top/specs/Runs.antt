@@ -18,6 +18,7 @@ abbrev pub RunsAs : Option Command → Status → Option (List ℕ) → Option (
 RunsAs (Some command.Replay) s left left' written written' = Ends s left left' written written'
 RunsAs (Some command.ShowAnswer) s left left' written written' = Shows kind.Answer s left left' written written'
 RunsAs (Some command.ShowAsk) s left left' written written' = Shows kind.Ask s left left' written written'
+RunsAs (Some command.ShowH2) s left left' written written' = Shows kind.Frames s left left' written written'
 RunsAs other s left left' written written' = IsRefused s left left' written written'
 
 -- a command that is built
@@ -25,4 +26,5 @@ abbrev pub IsBuilt : Option Command → Type 0
 IsBuilt (Some command.Replay) = Unit {0}
 IsBuilt (Some command.ShowAnswer) = Unit {0}
 IsBuilt (Some command.ShowAsk) = Unit {0}
+IsBuilt (Some command.ShowH2) = Unit {0}
 IsBuilt other = ⊥

@@ -1,4 +1,4 @@
--- What a line of hexadecimal digits is shown as.
+-- What a line of hexadecimal digits is shown as: a message, or frames.
 use Rattle.std.specs.Prelude.{ℕ, ◌≡◌, ◌⊎◌, List, [], ◌∷◌, ◌++◌, codes, Option, Some, None, Result, Ok, Err}
 use Rattle.std.specs.Fmt.{decimal}
 use Rattle.std.specs.Io.KnownBytes.{Appends, Keeps}
@@ -16,6 +16,7 @@ use Rattle.ext_top.specs.declared.status.Status.{Status}
 use Rattle.ext_top.specs.declared.status.Status.TheVariants as status
 use Rattle.ext_top.specs.declared.show.Kind.{Kind}
 use Rattle.ext_top.specs.declared.show.Kind.TheVariants as kind
+use Rattle.ext_top.specs.ShownFrames.{shown_h2}
 use Rattle.ext_top.specs.Moves.{line_limit, ReadsLine, ReadsNone, ReadsSome, WritesSome}
 
 -- a fault, and the place of the record that has it
@@ -57,6 +58,7 @@ shown_ask bytes = ask_text (ask_of bytes)
 abbrev pub shown : Kind → List ℕ → List ℕ
 shown kind.Answer bytes = shown_answer bytes
 shown kind.Ask bytes = shown_ask bytes
+shown kind.Frames bytes = shown_h2 bytes
 
 -- ---- a run
 

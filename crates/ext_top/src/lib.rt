@@ -7,6 +7,7 @@ mod parse;
 mod replay;
 mod scan;
 mod show;
+mod show_h2;
 mod stage;
 mod status;
 mod step;

@@ -1,10 +1,11 @@
-//! One message, shown to a person.
+//! One message, or frames of HTTP/2, shown to a person.
 
 ghost use Rattle.std.specs.Prelude.{◌≡◌, ◌≢◌, ◌≤◌, ◌<◌, ◌^◌, ◌++◌, ◌∷◌, [], length, IfOk};
 ghost use Rattle.px_edge.specs.Causes.{Rose};
 ghost use Rattle.ext_msgs.specs.declared.fault.MsgFault.TheVariants.{Memory};
 ghost use Rattle.ext_top.specs.Shows.{Shows, canonical as canonical_text, refused, refused_at as refused_text, refused_wire as refused_bytes, shown, shown_answer, shown_ask};
 
+use crate::show_h2::frames_text;
 use crate::status::Status;
 use crate::streams::{LINE_LIMIT, Stop, read_line, write_all};
 use ext_msgs::{MsgFault, read_answer, read_ask, write_answer, write_ask};
@@ -13,11 +14,12 @@ use px_edge::{Sink, Source};
 use std::alloc::{AllocError, Global};
 use trace_format::read_hex;
 
-/// A kind of message.
+/// What the digits of a line are.
 #[derive(Clone, Copy, Debug)]
 pub enum Kind {
     Answer,
     Ask,
+    Frames,
 }
 
 // A fault's name and the place of its record.
@@ -95,7 +97,7 @@ fn ask_text(alloc: Global, bytes: &Blob) -> Result<Vec<u8>, AllocError>
     }
 }
 
-// The line that is written for the bytes of a message.
+// What is written for the bytes.
 fn shown_line(alloc: Global, kind: Kind, bytes: &Blob) -> Result<Vec<u8>, AllocError>
     requires { length bytes.now < 2 ^ 32 }
     ensures { IfOk result (λ text. text.items ≡ shown kind bytes.now ++ 10 ∷ []) }
@@ -103,13 +105,15 @@ fn shown_line(alloc: Global, kind: Kind, bytes: &Blob) -> Result<Vec<u8>, AllocE
     let mut text = match kind {
         Kind::Answer => answer_text(alloc, bytes)?,
         Kind::Ask => ask_text(alloc, bytes)?,
+        Kind::Frames => frames_text(alloc, bytes.bytes())?,
     };
     text.push(b'\n')?;
     Ok(text)
 }
 
-/// Reads one line of hexadecimal digits, and writes what message they are: `canonical` and its canonical spelling, or
-/// `refused` with the fault's name and the place of the record that has it.
+/// Reads one line of hexadecimal digits, and writes what they are. A message is `canonical` and its canonical spelling, or
+/// `refused` with the fault's name and the place of the record that has it. Frames are a line `frame TYPE FLAGS STREAM
+/// LENGTH` each, and then `rest` with the number of bytes that are left, or `refused` with the code of the first fault.
 pub(crate) fn show<S: Source, K: Sink>(
     alloc: Global,
     kind: Kind,

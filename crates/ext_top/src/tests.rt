@@ -355,6 +355,37 @@ fn messages_are_shown(rt: HostRuntime) -> Result<(), Fail> {
     Ok(())
 }
 
+#[test]
+fn frames_are_shown(rt: HostRuntime) -> Result<(), Fail> {
+    let frames: [&str; 2] = ["show", "h2"];
+    let lines: [(&[u8], &[u8]); 4] = [
+        (b"000000040000000000000000\n", b"frame 4 0 0 0\nrest 3\n"),
+        (b"0000010005800000034100000608000000000\n", b""),
+        (b"\n", b"rest 0\n"),
+        (
+            b"000001000580000003410000070600000000000000000000000000\n",
+            b"frame 0 5 3 1\nrefused 6\n",
+        ),
+    ];
+    for (line, wanted) in lines {
+        let input: [&[u8]; 1] = [line];
+        let output: [&[u8]; 1] = [wanted];
+        let status = runs(
+            &rt,
+            rt.alloc(),
+            frames.as_slice(),
+            input.as_slice(),
+            output.as_slice(),
+        )?;
+        if wanted.is_empty() {
+            assert!(rt; matches!(status, Status::TraceFault(1)));
+        } else {
+            assert!(rt; matches!(status, Status::Done));
+        }
+    }
+    Ok(())
+}
+
 // A read or a write that fails, each in turn, leaves a front of the transcript.
 #[test]
 fn failing_reads_and_writes_are_told(rt: HostRuntime) -> Result<(), Fail> {

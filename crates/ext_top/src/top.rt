@@ -29,6 +29,7 @@ pub fn run<S: Source, K: Sink>(
         Some(Command::Replay) => replay(alloc, source, sink),
         Some(Command::ShowAnswer) => show(alloc, Kind::Answer, source, sink),
         Some(Command::ShowAsk) => show(alloc, Kind::Ask, source, sink),
+        Some(Command::ShowH2) => show(alloc, Kind::Frames, source, sink),
         _ => Status::Usage,
     }
 }

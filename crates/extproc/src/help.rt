@@ -9,7 +9,8 @@ usage: extproc WORDS..
   show answer   reads a line of hexadecimal digits, writes `canonical HEX` or
                 `refused NAME PLACE`: what ProcessingResponse they are
   show ask      the same of a ProcessingRequest
-  show h2       the same of HTTP/2 frames (not built yet)
+  show h2       the same of HTTP/2 frames: a line `frame TYPE FLAGS STREAM
+                LENGTH` each, then `rest N` or `refused CODE`
   load NUMBER COUNT
                 runs COUNT generated exchanges (not built yet)
   proxy LISTEN UPSTREAM PROCESSOR COUNT
