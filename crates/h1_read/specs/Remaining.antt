@@ -6,7 +6,7 @@ use Rattle.http_model.specs.Lines.{chunk_line}
 use Rattle.h1_read.specs.Sections.{trailer_section}
 use Rattle.http_model.specs.Bodies.{Body, body, part, faulty, whole_body, behind, chunk_data, chunk_end, chunks_from, chunked, trailers_behind}
 use Rattle.http_model.specs.declared.types.Length.{Length}
-use Rattle.http_model.specs.declared.types.Length.TheVariants as length
+use Rattle.http_model.specs.declared.types.Length.TheVariants as body_length
 use Rattle.http_model.specs.Reads.{cut_short}
 use Rattle.h1_read.specs.Messages.{fault_of}
 use Rattle.h1_read.specs.declared.fault.H1Fault.{H1Fault}
@@ -25,21 +25,21 @@ pub data Rest : Type 0 where
 
 -- what it makes of the bytes to come, which may be ended
 abbrev pub remaining : Rest → Bool → List ℕ → Body
-remaining (Known n) ended bytes = body (length.Known n) ended bytes
+remaining (Known n) ended bytes = body (body_length.Known n) ended bytes
 remaining (Line kept) ended bytes = chunked (kept ++ bytes)
 remaining (Chunk n) ended bytes = chunks_from (chunk_data n bytes) chunked
 remaining Lf ended bytes = chunks_from (chunk_end [] (13 ∷ bytes)) chunked
 remaining (Trailers kept) ended bytes = trailers_behind (kept ++ bytes)
-remaining Close ended bytes = body length.Close ended bytes
-remaining Over ended bytes = body length.NoBody ended bytes
+remaining Close ended bytes = body body_length.Close ended bytes
+remaining Over ended bytes = body body_length.NoBody ended bytes
 remaining (Failed f) ended bytes = faulty [] f
 
 -- before anything came
 abbrev pub at_start : Length → Rest
-at_start length.NoBody = Over
-at_start (length.Known n) = Known n
-at_start length.Chunked = Line []
-at_start length.Close = Close
+at_start body_length.NoBody = Over
+at_start (body_length.Known n) = Known n
+at_start body_length.Chunked = Line []
+at_start body_length.Close = Close
 
 -- what came is a beginning
 abbrev pub IsBegun : Rest → Type 0

@@ -12,7 +12,7 @@ use Rattle.http_model.specs.declared.types.Direction.TheVariants.{Request, Respo
 use Rattle.http_model.specs.declared.types.Framing.{Framing}
 use Rattle.http_model.specs.declared.types.Framing.TheVariants as framing
 use Rattle.http_model.specs.declared.types.Length.{Length}
-use Rattle.http_model.specs.declared.types.Length.TheVariants as length
+use Rattle.http_model.specs.declared.types.Length.TheVariants as body_length
 
 -- a value as it is given back
 abbrev pub given : Field → Field
@@ -98,14 +98,14 @@ given_length (framing.Length n) = field (codes "content-length") (decimal n) ∷
 given_length framing.Chunked = []
 
 abbrev pub request_length : Framing → Length
-request_length framing.NoField = length.NoBody
-request_length (framing.Length n) = length.Known n
-request_length framing.Chunked = length.Chunked
+request_length framing.NoField = body_length.NoBody
+request_length (framing.Length n) = body_length.Known n
+request_length framing.Chunked = body_length.Chunked
 
 abbrev pub response_length : Framing → Length
-response_length framing.NoField = length.Close
-response_length (framing.Length n) = length.Known n
-response_length framing.Chunked = length.Chunked
+response_length framing.NoField = body_length.Close
+response_length (framing.Length n) = body_length.Known n
+response_length framing.Chunked = body_length.Chunked
 
 -- as a reader gives it back: `http` is the scheme, and the length stands last
 abbrev pub given_request : List Field → Framing → Head
@@ -120,7 +120,7 @@ given_request head f = record {
 abbrev pub given_response : Bool → List Field → Framing → Head
 given_response to_head head f = record {
   fields = field (codes ":status") (status_of head) ∷ (map given (others head) ++ given_length f);
-  length = if is_bare to_head (status_of head) then length.NoBody else response_length f;
+  length = if is_bare to_head (status_of head) then body_length.NoBody else response_length f;
   expects = false;
 }
 
@@ -177,10 +177,10 @@ given_head Response to_head head f = given_response to_head head f
 
 -- the body and the trailers fit the framing: none where there can be no body, and no body that only an end tells
 abbrev pub BodyFits : Length → Message → Type 0
-BodyFits length.NoBody m = body_bytes m.framing m.pieces m.trailers ≡ []
-BodyFits (length.Known n) m = length (content_of m.pieces) ≡ n
-BodyFits length.Chunked m = AllByRecursion IsPiece m.pieces × (list_all is_writable m.trailers ≡ true)
-BodyFits length.Close m = m.pieces ≡ []
+BodyFits body_length.NoBody m = body_bytes m.framing m.pieces m.trailers ≡ []
+BodyFits (body_length.Known n) m = length (content_of m.pieces) ≡ n
+BodyFits body_length.Chunked m = AllByRecursion IsPiece m.pieces × (list_all is_writable m.trailers ≡ true)
+BodyFits body_length.Close m = m.pieces ≡ []
 
 abbrev pub IsHead : Direction → List Field → Type 0
 IsHead Request head = IsRequestHead head
@@ -194,10 +194,10 @@ pub record IsWritten (d : Direction) (to_head : Bool) (m : Message) : Type 0 whe
 
 -- the body as a reader gives it back: its trailers without owned names
 abbrev pub given_body : Length → Bool → Message → Body
-given_body length.NoBody ended m = whole_body [] [] []
-given_body (length.Known n) ended m = whole_body (content_of m.pieces) [] []
-given_body length.Chunked ended m = whole_body (content_of m.pieces) (without owned_names (map given m.trailers)) []
-given_body length.Close ended m = body length.Close ended []
+given_body body_length.NoBody ended m = whole_body [] [] []
+given_body (body_length.Known n) ended m = whole_body (content_of m.pieces) [] []
+given_body body_length.Chunked ended m = whole_body (content_of m.pieces) (without owned_names (map given m.trailers)) []
+given_body body_length.Close ended m = body body_length.Close ended []
 
 abbrev pub given_message : Direction → Bool → Message → Bool → Original
 given_message d to_head m ended =
