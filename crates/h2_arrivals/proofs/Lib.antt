@@ -1,0 +1,11 @@
+pub mod Numbers
+pub mod Queues
+pub mod Lives
+pub mod Entries
+pub mod Receives
+pub mod Reports
+pub mod Owes
+pub mod Opens
+pub mod Brings
+pub mod Arrives
+pub mod Answered

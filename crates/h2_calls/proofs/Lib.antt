@@ -1,0 +1,16 @@
+pub mod Lists
+pub mod Queues
+pub mod Same
+pub mod Valids
+pub mod Hand
+pub mod HandData
+pub mod HandReset
+pub mod Release
+pub mod Head
+pub mod Give
+pub mod Take
+pub mod Sounds
+pub mod Unless
+pub mod Fail
+pub mod Start
+pub mod Arrivals

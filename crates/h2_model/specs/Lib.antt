@@ -1,0 +1,16 @@
+pub mod Codes
+pub mod Log
+pub mod Streams
+pub mod Settings
+pub mod Blocks
+pub mod Queue
+pub mod Account
+pub mod Windows
+pub mod Violations
+pub mod StreamFaults
+pub mod Duties
+pub mod History
+pub mod Calls
+pub mod State
+pub mod Moves
+pub mod Valid

@@ -1,0 +1,3 @@
+pub mod Outgoing
+pub mod Queue
+pub mod Places

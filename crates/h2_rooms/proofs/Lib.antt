@@ -1,0 +1,7 @@
+pub mod Sums
+pub mod Grows
+pub mod Room
+pub mod Begins
+pub mod Calls
+pub mod Arrives
+pub mod Bytes

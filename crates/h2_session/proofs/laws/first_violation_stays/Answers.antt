@@ -1,5 +1,0 @@
-use Rattle.h2_session.proofs.Stays.{first-stays}
-use Rattle.h2_session.proofs.laws.first_violation_stays.Goals as goal
-
-pub returns : goal.returns
-returns c = first-stays

@@ -1,5 +1,0 @@
-use Rattle.h2_session.proofs.Flows.{flow-taken}
-use Rattle.h2_session.proofs.laws.given_bytes_are_dropped.Goals as goal
-
-pub returns : goal.returns
-returns c = flow-taken

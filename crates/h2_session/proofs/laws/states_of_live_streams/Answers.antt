@@ -1,5 +1,0 @@
-use Rattle.h2_session.proofs.Flows.{live-state}
-use Rattle.h2_session.proofs.laws.states_of_live_streams.Goals as goal
-
-pub returns : goal.returns
-returns c = live-state
