@@ -1,0 +1,15 @@
+pub mod Holding
+pub mod Sums
+pub mod Roominess
+pub mod Heading
+pub mod Handing
+pub mod Finishes
+pub mod Resets
+pub mod Sends
+pub mod Takes
+pub mod Lowest
+pub mod Heads
+pub mod Opens
+pub mod Starts
+pub mod Answers
+pub mod Histories

@@ -1,0 +1,4 @@
+pub mod Kept
+pub mod Rooms
+pub mod StandsFor
+pub mod Arriving
