@@ -4,9 +4,9 @@ use Rattle.ext_msgs.specs.declared.lists.Field.{Field}
 use Rattle.hpack_prim.specs.Integers.{groups_at, int_at}
 use Rattle.h2_frames.specs.declared.frame.Frame.{Frame}
 use Rattle.h2_frames.specs.declared.frame.Frame.TheVariants as frame
-use Rattle.h2_session.specs.declared.answers.Event.{Event}
-use Rattle.h2_session.specs.declared.answers.Event.TheVariants as event
-use Rattle.h2_session.specs.History.{Open, called}
+use Rattle.h2_model.specs.declared.answers.Event.{Event}
+use Rattle.h2_model.specs.declared.answers.Event.TheVariants as event
+use Rattle.h2_model.specs.History.{Open, called}
 use Rattle.h2_examples.specs.Setting.{rules, fed, reported, came, client, client_code}
 
 -- a block of :status 200

@@ -2,10 +2,10 @@
 use Rattle.std.specs.Prelude.{ℕ, ◌≡◌, true, false, List, [], ◌∷◌, ◌++◌, length, codes, refl, replicate, map}
 use Rattle.h2_frames.specs.declared.frame.Frame.{Frame}
 use Rattle.h2_frames.specs.declared.frame.Frame.TheVariants as frame
-use Rattle.h2_session.specs.Queue.{flow, bytes_of}
-use Rattle.h2_session.specs.Account.{Account}
-use Rattle.h2_session.specs.History.{Call, Open, Head, Send, Finish, Reset, Take}
-use Rattle.h2_session.specs.Calls.{waits, kept_streams, can_open, used}
+use Rattle.h2_model.specs.Queue.{flow, bytes_of}
+use Rattle.h2_model.specs.Account.{Account}
+use Rattle.h2_model.specs.History.{Call, Open, Head, Send, Finish, Reset, Take}
+use Rattle.h2_model.specs.Calls.{waits, kept_streams, can_open, used}
 use Rattle.h2_examples.specs.Setting.{rules, pairs, fed, client_after, server_after, no_settings, preface_digits}
 
 -- the frames that wait, each with the number of its bytes left

@@ -8,17 +8,17 @@ use Rattle.h2_frames.specs.Payloads.{content_of, frame_of}
 use Rattle.h2_frames.specs.Frames.{first}
 use Rattle.h2_frames.specs.declared.frame.Frame.{Frame}
 use Rattle.h2_frames.specs.declared.frame.Frame.TheVariants as frame
-use Rattle.h2_session.specs.declared.answers.Event.{Event}
-use Rattle.h2_session.specs.Log.{events, violation}
-use Rattle.h2_session.specs.Blocks.{table_after}
-use Rattle.h2_session.specs.Queue.{flow}
-use Rattle.h2_session.specs.Account.{Account}
-use Rattle.h2_session.specs.Windows.{window_from, connection_window, stream_window}
-use Rattle.h2_session.specs.Violations.{violation_of}
-use Rattle.h2_session.specs.StreamFaults.{stream_fault}
-use Rattle.h2_session.specs.Duties.{owed_for, events_of}
-use Rattle.h2_session.specs.History.{Call, Feed, Open, Head, start, noted, handed, owing, accepted, arrived, with_byte, called, account}
-use Rattle.h2_session.specs.Calls.{used, can_open, waits, sendable, control, unsent_bytes}
+use Rattle.h2_model.specs.declared.answers.Event.{Event}
+use Rattle.h2_model.specs.Log.{events, violation}
+use Rattle.h2_model.specs.Blocks.{table_after}
+use Rattle.h2_model.specs.Queue.{flow}
+use Rattle.h2_model.specs.Account.{Account}
+use Rattle.h2_model.specs.Windows.{window_from, connection_window, stream_window}
+use Rattle.h2_model.specs.Violations.{violation_of}
+use Rattle.h2_model.specs.StreamFaults.{stream_fault}
+use Rattle.h2_model.specs.Duties.{owed_for, events_of}
+use Rattle.h2_model.specs.History.{Call, Feed, Open, Head, start, noted, handed, owing, accepted, arrived, with_byte, called, account}
+use Rattle.h2_model.specs.Calls.{used, can_open, waits, sendable, control, unsent_bytes}
 
 -- a proof that computes with these definitions names this one
 unfoldable pub rules : Unit {0}

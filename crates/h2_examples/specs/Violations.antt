@@ -2,8 +2,8 @@
 use Rattle.std.specs.Prelude.{ℕ, ◌≡◌, true, false, List, [], ◌∷◌, ◌++◌, codes, refl, replicate, Some, None}
 use Rattle.h2_frames.specs.declared.frame.Frame.{Frame}
 use Rattle.h2_frames.specs.declared.frame.Frame.TheVariants as frame
-use Rattle.h2_session.specs.History.{Feed, Take, called}
-use Rattle.h2_session.specs.Calls.{used}
+use Rattle.h2_model.specs.History.{Feed, Take, called}
+use Rattle.h2_model.specs.Calls.{used}
 use Rattle.h2_examples.specs.Setting.{rules, pairs, fed, client_after, server_after, client, server, client_code, server_code, waiting_behind, code, came, empty_ping}
 
 -- The preface, and the first frame

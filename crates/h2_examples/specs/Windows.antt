@@ -2,9 +2,9 @@
 use Rattle.std.specs.Prelude.{◌≡◌, false, List, [], ◌∷◌, ◌++◌, codes, refl, replicate, pos, negsuc}
 use Rattle.h2_frames.specs.Frames.{first, Whole, Unfinished}
 use Rattle.h2_frames.specs.declared.frame.Frame.TheVariants as frame
-use Rattle.h2_session.specs.Windows.{connection_window, stream_window}
-use Rattle.h2_session.specs.History.{Call, Open, Head, Send, Reset, Take}
-use Rattle.h2_session.specs.Calls.{sendable}
+use Rattle.h2_model.specs.Windows.{connection_window, stream_window}
+use Rattle.h2_model.specs.History.{Call, Open, Head, Send, Reset, Take}
+use Rattle.h2_model.specs.Calls.{sendable}
 use Rattle.h2_examples.specs.Setting.{rules, pairs, fed, client_after, no_settings}
 
 -- the empty SETTINGS frame, and behind it 3 bytes in which no frame is whole
