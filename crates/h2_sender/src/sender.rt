@@ -92,8 +92,8 @@ impl Sender {
     pub fn enter(&mut self, frame: Frame)
         requires sendable { IsSendable frame }
         requires room { 0 < self.old.room }
-        requires bound { data_kept self.old.waiting self.old.held + data_in 0 frame ≤ 2 ^ 40 }
-        requires window { pos (data_in 0 frame) ≤ℤ self.old.window }
+        requires bound { 0 < data_in 0 frame → data_kept self.old.waiting self.old.held + data_in 0 frame ≤ 2 ^ 40 }
+        requires window { 0 < data_in 0 frame → pos (data_in 0 frame) ≤ℤ self.old.window }
         ensures waiting { self.new.waiting ≡ entered frame self.old.waiting }
         ensures held { self.new.held ≡ self.old.held }
         ensures window { self.new.window ≡ self.old.window -ℤ pos (data_in 0 frame) }
@@ -108,8 +108,8 @@ impl Sender {
     pub fn hold(&mut self, frame: Frame, owed: bool)
         requires sendable { IsSendable frame }
         requires room { 0 < self.old.held_room }
-        requires bound { data_kept self.old.waiting self.old.held + data_in 0 frame ≤ 2 ^ 40 }
-        requires window { pos (data_in 0 frame) ≤ℤ self.old.window }
+        requires bound { 0 < data_in 0 frame → data_kept self.old.waiting self.old.held + data_in 0 frame ≤ 2 ^ 40 }
+        requires window { 0 < data_in 0 frame → pos (data_in 0 frame) ≤ℤ self.old.window }
         requires handed { owed ≡ true → data_in 0 frame ≡ 0 }
         ensures waiting { self.new.waiting ≡ self.old.waiting }
         ensures held { self.new.held ≡ self.old.held ++ entry_of owed frame ∷ [] }
@@ -165,9 +165,10 @@ impl Sender {
 
     /// How many frames are held.
     pub fn held_frames(&self) -> usize
-        ensures { result ≡ length self.now.held }
+        ensures count { result ≡ length self.now.held }
+        ensures bound { result ≤ 2 ^ 60 }
     {
-        self.held.len()
+        self.held.as_slice().len()
     }
 
     /// A connection error: DATA that wasn't begun is dropped, and so is what is held. GOAWAY goes last.

@@ -24,7 +24,7 @@ found-below p n top (x ∷ xs) h e =
     by ih None f false g = absurd cc
 
 -- where one passes, one is found
-found-some : (p : ℕ → Bool) (m : ℕ) (xs : List ℕ) → list_any (λ k. k == m) xs ≡ true → p m ≡ true → find p (reverse xs) ≡ None → ⊥
+pub found-some : (p : ℕ → Bool) (m : ℕ) (xs : List ℕ) → list_any (λ k. k == m) xs ≡ true → p m ≡ true → find p (reverse xs) ≡ None → ⊥
 found-some p m [] o q e = true≢false (sym o)
 found-some p m (x ∷ xs) o q e =
     by (λ i. found-some p m xs i q) (find p (reverse xs)) refl (x == m) refl o (p x) refl (sym (found-last p x xs) ∙ e)

@@ -70,7 +70,8 @@ impl Numbers {
 
     /// Whether a stream was opened.
     pub fn is_opened(&self, id: u32) -> bool
-        ensures { result ≡ has id self.now }
+        ensures known { result ≡ has id self.now }
+        ensures bound { result ≡ true → id < 2 ^ 31 }
     {
         if id % 2 != 1 || id >= self.next {
             return false;

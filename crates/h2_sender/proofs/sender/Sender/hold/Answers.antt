@@ -1,12 +1,12 @@
 -- DATA takes its length of the window.
-use Rattle.std.proofs.Common.{arith, ◌≡◌, ◌≤◌, ◌+◌, ◌^◌, ℕ, List, [], ◌∷◌, ◌++◌, sym, subst, ℤ, pos, ◌+ℤ◌, ◌≤ℤ◌}
+use Rattle.std.proofs.Common.{arith, ◌≡◌, ◌≤◌, ◌<◌, ◌+◌, ◌^◌, ℕ, List, [], ◌∷◌, ◌++◌, sym, subst, ℤ, pos, ◌+ℤ◌, ◌≤ℤ◌}
 use Rattle.std.proofs.lemmas.Int.{ints}
 use Rattle.h2_calls.proofs.Queues.{held-append}
 use Rattle.h2_model.specs.Log.{Entry}
 use Rattle.h2_model.specs.Queue.{Waiting, data_in}
 use Rattle.h2_model.specs.Windows.{held_data}
 use Rattle.h2_sender.specs.Sending.{Sending, IsBounded, data_kept, entry_of}
-use Rattle.h2_sender.proofs.Bounds.{bounded_more}
+use Rattle.h2_sender.proofs.Bounds.{bounded_more, fits_alone}
 use Rattle.h2_sender.proofs.Data.{data_is}
 use Rattle.h2_sender.proofs.sender.Sender.hold.Goals as goal
 
@@ -25,8 +25,9 @@ invariant_of-self c =
     let one : n ≡ held_data 0 (entry ∷ []) = data_is 0 c.args.owed c.args.frame (record { sendable = c.requires.sendable; handed = c.requires.handed }) in
     let more : held_data 0 c.push_reserved.new.self.items ≡ held_data 0 held + n = rw next (omega (arith, held-append 0 held (entry ∷ []))) in
     let sum : data_kept waiting c.push_reserved.new.self.items ≡ data_kept waiting held + n = omega arith in
-    let room : data_kept waiting held + n ≤ 2 ^ 40 = subst (λ (s : Sending). data_kept s.waiting s.held + n ≤ 2 ^ 40) (sym c.self.view_is) c.requires.bound in
-    let enough : pos n ≤ℤ window = subst (λ (s : Sending). pos n ≤ℤ s.window) (sym c.self.view_is) c.requires.window in
+    let room : 0 < n → data_kept waiting held + n ≤ 2 ^ 40 = subst (λ (s : Sending). 0 < n → data_kept s.waiting s.held + n ≤ 2 ^ 40) (sym c.self.view_is) c.requires.bound in
+    let few : n ≤ 2 ^ 40 = fits_alone (data_kept waiting held) n room in
+    let enough : 0 < n → pos n ≤ℤ window = subst (λ (s : Sending). 0 < n → pos n ≤ℤ s.window) (sym c.self.view_is) c.requires.window in
     let count : c.data_in-n.result ≡ n = c.data_in-n.ensures in
     let counted : c.self.inside.held_data ≡ held_data 0 held = c.self.invariant.0 in
     (omega arith, bounded_more waiting waiting held c.push_reserved.new.self.items window _ n bounded sum room enough (omega (arith, ints)))

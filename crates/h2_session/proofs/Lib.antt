@@ -1,0 +1,4 @@
+pub mod Agreeing
+pub mod Parts
+pub mod Updates
+pub mod Standing
