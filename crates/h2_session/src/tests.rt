@@ -4,6 +4,7 @@ use std::test::Fail;
 
 // SETTINGS_MAX_CONCURRENT_STREAMS of 256, and the preface with SETTINGS_ENABLE_PUSH of 0.
 const SERVERS: [u8; 15] = *b"\x00\x00\x06\x04\x00\x00\x00\x00\x00\x00\x03\x00\x00\x01\x00";
+
 const CLIENTS: [u8; 39] =
     *b"PRI * HTTP/2.0\r\n\r\nSM\r\n\r\n\x00\x00\x06\x04\x00\x00\x00\x00\x00\x00\x02\x00\x00\x00\x00";
 
