@@ -11,7 +11,12 @@ use Rattle.h2_streams.specs.Changes.{Counts}
 use Rattle.h2_streams.specs.declared.changes.Change.TheVariants.{UpdateGiven}
 use Rattle.h2_stands.specs.Kept.{Kept}
 
--- no room was lost
+-- no room was lost for frames
+pub record KeepsRoom (k l : Kept) : Type 0 where
+  pub queue : k.room ≤ l.room
+  pub held : k.held_room ≤ l.held_room
+
+-- nor for streams
 pub record KeepsRooms (k l : Kept) : Type 0 where
   pub queue : k.room ≤ l.room
   pub held : k.held_room ≤ l.held_room

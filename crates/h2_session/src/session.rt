@@ -11,7 +11,7 @@ ghost use Rattle.h2_model.specs.Windows.{stream_window};
 ghost use Rattle.h2_model.specs.declared.stream.Stream.{Stream};
 ghost use Rattle.h2_model.proofs.Lives.{found};
 ghost use Rattle.h2_sender.specs.Sending.{data_kept};
-ghost use Rattle.h2_session.specs.Keeping.{CanGive, CanGiveWhole, KeepsRooms, heading_as, leaves_a_stream, update_in};
+ghost use Rattle.h2_session.specs.Keeping.{CanGive, CanGiveWhole, KeepsRoom, KeepsRooms, heading_as, leaves_a_stream, update_in};
 ghost use Rattle.h2_streams.specs.Changes.{Allows};
 ghost use Rattle.h2_streams.specs.declared.changes.Change.TheVariants.{DataSent};
 ghost use Rattle.h2_stands.specs.Kept.{IsBeside, IsSame, lacks_head};
@@ -362,6 +362,7 @@ impl Session {
         ensures state { self.new.state ≡ resetting id self.old.state }
         ensures same { IsSame self.old self.new }
         ensures capacity { KeepsCapacity self.old self.new }
+        ensures rooms { KeepsRoom self.old self.new }
     {
         self.streams.change(id, Change::Reset);
         self.sender.drop_stream(id);

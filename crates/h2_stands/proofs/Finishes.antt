@@ -5,7 +5,7 @@ use Rattle.h2_frames.specs.declared.frame.Frame.TheVariants as frame
 use Rattle.h2_model.specs.Streams.{opened, is_live, is_ended_here}
 use Rattle.h2_model.specs.Account.{Account, is_headless}
 use Rattle.h2_model.specs.Calls.{is_open_here}
-use Rattle.h2_model.specs.History.{called, Finish, is_violated}
+use Rattle.h2_model.specs.History.{called, Finish}
 use Rattle.h2_model.specs.State.{seen, stream_of_log}
 use Rattle.h2_model.specs.Moves.{handing}
 use Rattle.h2_calls.specs.Becomes.{Becomes}
@@ -18,7 +18,7 @@ use Rattle.h2_stands.specs.Rooms.{KeepsCapacity}
 use Rattle.h2_stands.specs.StandsFor.{IsSound, Holds}
 use Rattle.h2_stands.proofs.Holding.{Leaves, holding}
 use Rattle.h2_stands.proofs.Roominess.{Pays, pays-unless, pays-roomy}
-use Rattle.h2_stands.proofs.Handing.{Alike, same-alike, handed-alike, leaves, handing-is, stream-found, stream-open, finish-pays}
+use Rattle.h2_stands.proofs.Handing.{Alike, same-alike, handed-alike, leaves, handing_unless, unless-spares, handing-is, stream-found, stream-open, finish-pays}
 
 pub open-here-live : (id : ℕ) (a : Account) → is_open_here id a ≡ true → is_live id a.log ≡ true
 open-here-live id a o = both-left (is_live id a.log) (not (is_ended_here id a.log)) o
@@ -28,7 +28,8 @@ open-here-open id a o = not-true (is_ended_here id a.log) (both-right (is_live i
 
 finish-becomes : (id : ℕ) (a : Account) → IsSound a → is_open_here id a ≡ true
     → Becomes (called (Finish id) a) (opened a.log) (is_headless a)
-    (if is_violated a then seen a else handing (is_headless a id) (frame.Data id [] true 0) (seen a))
+    (handing_unless (is_headless a id) (frame.Data id [] true 0) (seen a))
+unfolding seen
 finish-becomes id a s o = record {
   state = finish-seen id a s.valid;
   valid = finish-valid id a s.valid (open-here-live id a o);
@@ -46,7 +47,9 @@ pub finish-held : (k l : Kept) (id : ℕ) (a : Account) → Holds k a → is_ope
     → l.state ≡ (if is_some k.state.violation then k.state else handing (lacks_head id k) (frame.Data id [] true 0) k.state)
     → Holds l (called (Finish id) a)
 finish-held k l id a h o s c e =
-    holding k l a (called (Finish id) a) _ h (finish-becomes id a h.sound o)
+    holding k l a (called (Finish id) a) (handing_unless (is_headless a id) (frame.Data id [] true 0))
+    (unless-spares (is_headless a id) (frame.Data id [] true 0)) h
+    (finish-becomes id a h.sound o)
     (e ∙ handing-is k a h id (frame.Data id [] true 0)) s (finish-leaves id a h.sound o) (pays-roomy k l h.room pays s c)
   where
     pays : Pays k.state l.state

@@ -9,7 +9,7 @@ use Rattle.h2_model.specs.Streams.{is_live, is_ended_here}
 use Rattle.h2_model.specs.Blocks.{open_block}
 use Rattle.h2_model.specs.Queue.{Waiting, is_block, entered}
 use Rattle.h2_model.specs.Account.{Account, is_headless}
-use Rattle.h2_model.specs.History.{Call, called, frame_in, noted, handed, is_violated}
+use Rattle.h2_model.specs.History.{Call, called, frame_in, noted, handed}
 use Rattle.h2_model.specs.State.{State, seen, live, stream_of_log}
 use Rattle.h2_model.specs.Moves.{adjusted, unless_over, with_sent, handing, sending, resetting, holding, queueing, is_dropped, is_dropped_entry, kept_waiting, kept_held}
 use Rattle.h2_model.proofs.Lives.{found, found-live}
@@ -22,7 +22,7 @@ use Rattle.h2_rooms.proofs.Sums.{sum-entered}
 use Rattle.h2_stands.specs.Kept.{Kept, lacks_head}
 use Rattle.h2_stands.specs.StandsFor.{IsSound, KnowsHeads, Holds}
 use Rattle.h2_stands.proofs.Heading.{handed-heads}
-use Rattle.h2_stands.proofs.Holding.{Leaves, violation-kept, lacks-head}
+use Rattle.h2_stands.proofs.Holding.{Leaves, SparesTable, lacks-head}
 use Rattle.h2_stands.proofs.Roominess.{Pays, Comes}
 use Rattle.h2_stands.proofs.Sums.{left_of, one-at-most, length-entered, length-filtered, closings-filtered, credits-spent, credits-found, credit-some, length-moved}
 
@@ -60,13 +60,37 @@ leaves c a s f n x = record {
   sound = λ v. sym x.violation ∙ v;
 }
 
--- The state, by what is kept
+-- The state
 
+sending-spares : (f : Frame) → SparesTable (sending f)
+unfolding sending resetting
+sending-spares (frame.Data id bytes last size) t s = refl
+sending-spares (frame.Headers id block last ends) t s = refl
+sending-spares (frame.Reset id code) t s = refl
+sending-spares f t s = refl
+
+handing-spares : (headless : Bool) (f : Frame) → SparesTable (handing headless f)
+unfolding handing
+handing-spares true f t s = ap (holding (Handed f)) (sending-spares f t s)
+handing-spares false f t s = ap (queueing f) (sending-spares f t s)
+
+-- nothing is handed over after a violation
+abbrev pub handing_unless : Bool → Frame → State → State
+handing_unless headless f s = if is_some s.violation then s else handing headless f s
+
+pub unless-spares : (headless : Bool) (f : Frame) → SparesTable (handing_unless headless f)
+unless-spares headless f t s = by (is_some s.violation)
+  where
+    by : (c : Bool)
+        → (if c then record s { table = t } else handing headless f (record s { table = t }))
+        ≡ record (if c then s else handing headless f s) { table = t }
+    by true = refl
+    by false = handing-spares headless f t s
+
+-- by what is kept
 pub handing-is : (k : Kept) (a : Account) → Holds k a → (id : ℕ) (f : Frame)
-    → (if is_some k.state.violation then k.state else handing (lacks_head id k) f k.state)
-    ≡ (if is_violated a then seen a else handing (is_headless a id) f (seen a))
-handing-is k a h id f = λ i. if is_some (violation-kept k a h i) then h.state i
-    else handing (lacks-head k a h id i) f (h.state i)
+    → handing_unless (lacks_head id k) f k.state ≡ handing_unless (is_headless a id) f k.state
+handing-is k a h id f = ap (λ c. handing_unless c f k.state) (lacks-head k a h id)
 
 -- The stream
 

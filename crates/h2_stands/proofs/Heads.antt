@@ -25,11 +25,11 @@ use Rattle.h2_streams.specs.Opened.{is_within}
 use Rattle.h2_rooms.proofs.Calls.{headed-counted}
 use Rattle.h2_stands.specs.Kept.{Kept, IsBeside, lacks_head}
 use Rattle.h2_stands.specs.Rooms.{KeepsCapacity, HasSpare}
-use Rattle.h2_stands.specs.StandsFor.{IsSound, Lacks, Holds}
+use Rattle.h2_stands.specs.StandsFor.{AreBelow, IsSound, Lacks, Holds}
 use Rattle.h2_stands.proofs.Sums.{length-entered, length-filtered, length-moved}
 use Rattle.h2_stands.proofs.Lowest.{found-lowest}
 use Rattle.h2_stands.proofs.Heading.{headed-heads, headed-same}
-use Rattle.h2_stands.proofs.Holding.{Leaves, holding-on, block-opened, numbers-kept, lacks-kept, lacks-head, violation-kept}
+use Rattle.h2_stands.proofs.Holding.{Leaves, SparesTable, moving, block-opened, numbers-kept, lacks-kept, lacks-head, violation-kept}
 use Rattle.h2_stands.proofs.Roominess.{Comes, spare-roomy}
 use Rattle.h2_stands.proofs.Handing.{Alike, same-alike, leaves}
 
@@ -62,15 +62,15 @@ head-leaves id fields block last a s o =
     (head-keeps (Alike a) id fields block last a (same-alike a s.heads) (headed-alike id block last a s o))
 
 head-becomes : (id : ℕ) (fields : List Field) (block : List ℕ) (last : Bool) (a : Account) → IsSound a → is_opened id a.log ≡ true
-    → Becomes (called (Head id fields block last) a) (opened a.log)
-    (λ m. if is_violated a then is_headless a m else if id == m then false else is_headless a m)
-    (if is_violated a then seen a else heading id (frame.Headers id block last true) (seen a))
-head-becomes id fields block last a s o = record {
-  state = head-call-seen id fields block last a s.valid s.calls;
+    → is_violated a ≡ false
+    → Becomes (called (Head id fields block last) a) (opened a.log) (λ m. if id == m then false else is_headless a m)
+    (heading id (frame.Headers id block last true) (seen a))
+head-becomes id fields block last a s o n = record {
+  state = head-call-seen id fields block last a s.valid s.calls ∙ rw n refl;
   valid = head-call-valid id fields block last a s.valid s.calls o;
   sound = head-call-sound id fields block last a s.valid s.calls;
   numbers = head-call-opened id fields block last a s.valid s.calls;
-  headless = λ m. head-call-headless id fields block last a m s.valid s.calls;
+  headless = λ m. head-call-headless id fields block last a m s.valid s.calls ∙ rw n refl;
 }
 
 -- The first block is one of the lowest stream without a head
@@ -159,6 +159,7 @@ module _ (k l : Kept) (a b : Account) (h : Holds k a) (id : ℕ) (lacking : is_h
       → ((m : ℕ) → is_headless b m ≡ (if id == m then false else is_headless a m)) → Lacks l b
   first-lacks s n e o t = record {
     known = numbers-kept k l a b n o h.streams.known;
+    gaps = subst AreBelow (sym n) h.streams.gaps;
     headless = λ m. t m ∙ next-lacks m
         ∙ (λ i. sym s.client i && nat_le (sym e i) m && list_any (λ z. z == m) (sym o i));
     odd = rw e odd;
@@ -213,6 +214,10 @@ none-held k a h id n =
         by true q = absurd (true≢false (sym l ∙ ap (is_headless a) (eqb-true (stream_of (frame_in e)) id q) ∙ n))
         by false q = q
 
+heading-spares : (id : ℕ) (block : List ℕ) (last ends : Bool) → SparesTable (heading id (frame.Headers id block last ends))
+unfolding heading sending
+heading-spares id block last ends t s = refl
+
 -- The queues
 
 length-all-entered : (held : List Entry) (queue : List Waiting) → length (all_entered held queue) ≡ length held + length queue
@@ -252,16 +257,12 @@ module _ (k l : Kept) (id : ℕ) (fields : List Field) (block : List ℕ) (last 
   sound : is_violated a ≡ false
   sound = ap is_some (sym (violation-kept k a h) ∙ u)
 
-  begins : Becomes b (opened a.log) (λ n. if is_violated a then is_headless a n else if id == n then false else is_headless a n)
-      (if is_violated a then seen a else heading id f (seen a))
-  begins = head-becomes id fields block last a h.sound o
-
-  lacks-by : (n : ℕ) → is_headless b n ≡ (if id == n then false else is_headless a n)
-  lacks-by n = begins.headless n ∙ rw sound refl
+  begins : Becomes b (opened a.log) (λ n. if id == n then false else is_headless a n) (heading id f (seen a))
+  begins = head-becomes id fields block last a h.sound o sound
 
   -- a block behind the first one leaves all that lack a head
   same-lacks : is_headless a id ≡ false → (n : ℕ) → is_headless b n ≡ is_headless a n
-  same-lacks e n = lacks-by n ∙ by (id == n) refl
+  same-lacks e n = begins.headless n ∙ by (id == n) refl
     where
       by : (c : Bool) → (id == n) ≡ c → (if c then false else is_headless a n) ≡ is_headless a n
       by true q = sym e ∙ ap (is_headless a) (eqb-true id n q)
@@ -274,7 +275,7 @@ module _ (k l : Kept) (id : ℕ) (fields : List Field) (block : List ℕ) (last 
       here = e ∙ ap (λ c. if c then id + 2 else k.headless) (lacks-head k a h id)
 
       by : (c : Bool) → is_headless a id ≡ c → Lacks l b
-      by true q = first-lacks k l a b h id q (first-headless k a h id m q) s n (here ∙ rw q refl) begins.numbers lacks-by
+      by true q = first-lacks k l a b h id q (first-headless k a h id m q) s n (here ∙ rw q refl) begins.numbers begins.headless
       by false q = lacks-kept k l a b (record {
         client = s.client;
         streams = s.streams;
@@ -303,7 +304,7 @@ module _ (k l : Kept) (id : ℕ) (fields : List Field) (block : List ℕ) (last 
   head-held p c s n d e =
       let q : l.state ≡ heading id f k.state = becomes-heading e in
       let v : Leaves a b = head-leaves id fields block last a h.sound o in
-      holding-on k l a b (opened a.log) _ _ h begins (q ∙ ap (heading id f) h.state ∙ sym (rw sound refl)) s v
+      moving k l a b (opened a.log) _ (heading id f) (heading-spares id block last true) h begins q s v
       (block-opened a b begins.numbers v.block h.sound.block) (heads-kept s n d)
       (spare-roomy (length k.state.held + 1) k l h.room
       (subst (Comes (length k.state.held + 1) k.state) (sym q) (heading-comes id block last true k.state)) p s.client s.streams c)

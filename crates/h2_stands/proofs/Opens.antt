@@ -25,21 +25,21 @@ use Rattle.h2_streams.specs.Opened.{Opened as Numbers}
 use Rattle.h2_streams.specs.Known.{HasOpened}
 use Rattle.h2_stands.specs.Kept.{Kept, IsBeside}
 use Rattle.h2_stands.specs.Rooms.{IsRoomy, KeepsCapacity}
-use Rattle.h2_stands.specs.StandsFor.{IsSound, Lacks, Holds}
+use Rattle.h2_stands.specs.StandsFor.{AreBelow, IsSound, Lacks, Holds}
 use Rattle.h2_stands.proofs.Heading.{open-heads}
-use Rattle.h2_stands.proofs.Holding.{Leaves, holding-on}
+use Rattle.h2_stands.proofs.Holding.{Leaves, SparesTable, moving}
 use Rattle.h2_stands.proofs.Handing.{leaves}
 
 -- Numbers
 
-above-last : (n g : ℕ) → 1 ≤ n → (if n == 1 then 0 else n - 2) ≡ g → g < n
+pub above-last : (n g : ℕ) → 1 ≤ n → (if n == 1 then 0 else n - 2) ≡ g → g < n
 above-last n g l e = by (n == 1) refl e
   where
     by : (c : Bool) → (n == 1) ≡ c → (if c then 0 else n - 2) ≡ g → g < n
     by true q e = omega (arith, l, e)
     by false q e = grind (arith, nat_tests, l, e, q)
 
-new-last : (n g : ℕ) → g < n → (if n + 2 == 1 then 0 else n + 2 - 2) ≡ max n g
+pub new-last : (n g : ℕ) → g < n → (if n + 2 == 1 then 0 else n + 2 - 2) ≡ max n g
 new-last n g l = by (n + 2 == 1) refl
   where
     by : (c : Bool) → (n + 2 == 1) ≡ c → (if c then 0 else n + 2 - 2) ≡ max n g
@@ -63,7 +63,7 @@ new-known false false y true n id eo ex ey es on = absurd (grind (arith, nat_tes
 new-known false true y false n id eo ex ey es on = refl
 new-known false false y false n id eo ex ey es on = refl
 
-new-above : (o x y : Bool) (n g id : ℕ) → (id % 2 == 1) ≡ o → nat_le (n + 2) id ≡ x → nat_lt (max n g) id ≡ y → n % 2 ≡ 1 → g < n
+pub new-above : (o x y : Bool) (n g id : ℕ) → (id % 2 == 1) ≡ o → nat_le (n + 2) id ≡ x → nat_lt (max n g) id ≡ y → n % 2 ≡ 1 → g < n
     → (o && x) ≡ (o && y)
 new-above false x y n g id eo ex ey on l = refl
 new-above true true true n g id eo ex ey on l = refl
@@ -113,11 +113,11 @@ module _ (k : Kept) (a : Account) (h : Holds k a) (c : a.client ≡ true) where
 
 -- Live streams are below
 
-top-all : (top : ℕ) (ns : List ℕ) → greatest ns < top → All (λ m. m < top) ns
+pub top-all : (top : ℕ) (ns : List ℕ) → greatest ns < top → All (λ m. m < top) ns
 top-all top [] l = All-nil (λ m. m < top)
 top-all top (m ∷ ns) l = All-cons (λ x. x < top) m ns (omega arith) (top-all top ns (omega arith))
 
-among-below : (top : ℕ) (ns : List ℕ) (a : Account) → All (λ m. m < top) ns → All (λ s. s.id < top) (live_among (reverse ns) a)
+pub among-below : (top : ℕ) (ns : List ℕ) (a : Account) → All (λ m. m < top) ns → All (λ s. s.id < top) (live_among (reverse ns) a)
 unfolding live stream_of_log
 among-below top [] a h = All-nil (λ s. s.id < top)
 among-below top (m ∷ ns) a h =
@@ -227,6 +227,10 @@ open-block : (a : Account) → IsSound a → greatest (opened a.log) < next_numb
 unfolding called
 open-block a s l = (opens-sound (next_number a) a (record { valid = s.valid; block = s.block }) l).block
 
+opening-spares : (id : ℕ) → SparesTable (opening id)
+unfolding opening
+opening-spares id t s = refl
+
 -- the new stream lacks a head
 open-lacks : (k l : Kept) (a : Account) → Holds k a → a.client ≡ true → IsBeside k l → l.headless ≡ k.headless
     → l.numbers ≡ record k.numbers { next = k.numbers.next + 2 } → Lacks l (called Open a)
@@ -234,6 +238,7 @@ unfolding called noted
 open-lacks k l a h c s e g = record {
   known = subst (λ m. HasOpened m (noted (Opened n) a)) (sym numbers)
       (opens-known n a (odd k a h c) (next-above k a h c) (knows k a h c));
+  gaps = subst AreBelow (sym numbers) (All-nil (λ gap. gap.last < n + 2));
   headless = λ m. lacks m (n == m) refl;
   odd = ap (λ z. z % 2) e ∙ h.streams.odd;
   within = λ d. rw (e, numbers) (omega (arith, h.streams.within here, next-is k a h c));
@@ -273,7 +278,7 @@ pub open-held : (k l : Kept) (a : Account) → Holds k a → a.client ≡ true �
     → l.headless ≡ k.headless → l.numbers ≡ record k.numbers { next = k.numbers.next + 2 }
     → l.state ≡ opening k.numbers.next k.state → KeepsCapacity k l → Holds l (called Open a)
 open-held k l a h c m s e g t q =
-    holding-on k l a (called Open a) _ _ (opening (next_number a) (seen a)) h
-    (open-becomes a h.sound (next-above k a h c)) (t ∙ (λ i. opening (next-is k a h c i) (h.state i))) s
+    moving k l a (called Open a) _ _ (opening (next_number a)) (opening-spares (next_number a)) h
+    (open-becomes a h.sound (next-above k a h c)) (t ∙ (λ i. opening (next-is k a h c i) k.state)) s
     (open-leaves a h.sound) (open-block a h.sound (next-above k a h c)) (open-lacks k l a h c s e g)
     (opening-roomy k l a k.numbers.next h c m s.client s.streams t q)

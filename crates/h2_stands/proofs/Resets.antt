@@ -3,7 +3,7 @@ use Rattle.std.proofs.Common.{◌≡◌, ℕ, true, refl, sym, ◌∙◌, subst,
 use Rattle.h2_frames.specs.declared.frame.Frame.TheVariants as frame
 use Rattle.h2_model.specs.Streams.{opened, is_live}
 use Rattle.h2_model.specs.Account.{Account, is_headless}
-use Rattle.h2_model.specs.History.{called, Reset, is_violated}
+use Rattle.h2_model.specs.History.{called, Reset}
 use Rattle.h2_model.specs.State.{seen, stream_of_log}
 use Rattle.h2_model.specs.Moves.{handing}
 use Rattle.h2_calls.specs.Becomes.{Becomes}
@@ -15,11 +15,12 @@ use Rattle.h2_stands.specs.Rooms.{KeepsCapacity}
 use Rattle.h2_stands.specs.StandsFor.{IsSound, Holds}
 use Rattle.h2_stands.proofs.Holding.{Leaves, holding}
 use Rattle.h2_stands.proofs.Roominess.{Pays, pays-unless, pays-roomy}
-use Rattle.h2_stands.proofs.Handing.{Alike, same-alike, handed-alike, leaves, handing-is, stream-found, reset-pays}
+use Rattle.h2_stands.proofs.Handing.{Alike, same-alike, handed-alike, leaves, handing_unless, unless-spares, handing-is, stream-found, reset-pays}
 
 reset-becomes : (id code : ℕ) (a : Account) → IsSound a → is_live id a.log ≡ true
     → Becomes (called (Reset id code) a) (opened a.log) (is_headless a)
-    (if is_violated a then seen a else handing (is_headless a id) (frame.Reset id code) (seen a))
+    (handing_unless (is_headless a id) (frame.Reset id code) (seen a))
+unfolding seen
 reset-becomes id code a s l = record {
   state = reset-call-seen id code a s.valid;
   valid = reset-call-valid id code a s.valid l;
@@ -38,7 +39,9 @@ pub reset-held : (k l : Kept) (id code : ℕ) (a : Account) → Holds k a → is
     → l.state ≡ (if is_some k.state.violation then k.state else handing (lacks_head id k) (frame.Reset id code) k.state)
     → Holds l (called (Reset id code) a)
 reset-held k l id code a h o s c e =
-    holding k l a (called (Reset id code) a) _ h (reset-becomes id code a h.sound o)
+    holding k l a (called (Reset id code) a) (handing_unless (is_headless a id) (frame.Reset id code))
+    (unless-spares (is_headless a id) (frame.Reset id code)) h
+    (reset-becomes id code a h.sound o)
     (e ∙ handing-is k a h id (frame.Reset id code)) s (reset-leaves id code a h.sound o) (pays-roomy k l h.room pays s c)
   where
     pays : Pays k.state l.state

@@ -1,5 +1,6 @@
 -- `send` leaves what the account after it says.
-use Rattle.std.proofs.Common.{◌≡◌, ℕ, Bool, true, false, ◌||◌, List, length, None, refl, sym, ◌∙◌, subst, if◌then◌else◌, is_some}
+use Rattle.std.proofs.Common.{◌≡◌, ℕ, Bool, true, false, ◌||◌, List, length, None, refl, sym, ◌∙◌, subst, if◌then◌else◌}
+use Rattle.h2_frames.specs.declared.frame.Frame.{Frame}
 use Rattle.h2_frames.specs.declared.frame.Frame.TheVariants as frame
 use Rattle.h2_model.specs.Log.{is_empty}
 use Rattle.h2_model.specs.Streams.{opened, is_live}
@@ -17,7 +18,7 @@ use Rattle.h2_stands.specs.Rooms.{KeepsCapacity, HasSpare}
 use Rattle.h2_stands.specs.StandsFor.{IsSound, Holds}
 use Rattle.h2_stands.proofs.Holding.{Leaves, holding}
 use Rattle.h2_stands.proofs.Roominess.{Comes, spare-roomy}
-use Rattle.h2_stands.proofs.Handing.{Alike, same-alike, handed-alike, leaves, handing-is, send-comes}
+use Rattle.h2_stands.proofs.Handing.{Alike, same-alike, handed-alike, leaves, handing_unless, unless-spares, handing-is, send-comes}
 use Rattle.h2_stands.proofs.Finishes.{open-here-live}
 
 -- no bytes, and bytes after a violation, change nothing
@@ -31,12 +32,12 @@ send-idle id bytes a e = by (is_empty bytes) (is_violated a) e
     by false true e = refl
     by false false e = absurd cc
 
-send-becomes : (id : ℕ) (bytes : List ℕ) (a : Account) → IsSound a → is_live id a.log ≡ true
+send-becomes : (id : ℕ) (bytes : List ℕ) (a : Account) → IsSound a → is_live id a.log ≡ true → is_empty bytes ≡ false
     → Becomes (called (Send id bytes) a) (opened a.log) (is_headless a)
-    (if is_empty bytes then seen a else if is_violated a then seen a
-    else handing (is_headless a id) (frame.Data id bytes false (length bytes)) (seen a))
-send-becomes id bytes a s l = record {
-  state = send-seen id bytes a s.valid;
+    (handing_unless (is_headless a id) (frame.Data id bytes false (length bytes)) (seen a))
+unfolding seen
+send-becomes id bytes a s l n = record {
+  state = send-seen id bytes a s.valid ∙ rw n refl;
   valid = send-valid id bytes a s.valid l;
   sound = send-sound id bytes a s.calls;
   numbers = send-opened id bytes a;
@@ -54,13 +55,14 @@ pub send-held : (k l : Kept) (id : ℕ) (bytes : List ℕ) (a : Account) → Hol
     → l.state ≡ handing (lacks_head id k) (frame.Data id bytes false (length bytes)) k.state
     → Holds l (called (Send id bytes) a)
 send-held k l id bytes a h o n v p s c e =
-    holding k l a (called (Send id bytes) a) _ h (send-becomes id bytes a h.sound (open-here-live id a o))
-    (e ∙ rw n (sym (kept v) ∙ handing-is k a h id (frame.Data id bytes false (length bytes)))) s (send-leaves id bytes a h.sound)
+    holding k l a (called (Send id bytes) a) (handing_unless (is_headless a id) f) (unless-spares (is_headless a id) f) h
+    (send-becomes id bytes a h.sound (open-here-live id a o) n) (e ∙ sym (kept v) ∙ handing-is k a h id f) s
+    (send-leaves id bytes a h.sound)
     (spare-roomy 1 k l h.room
     (subst (Comes 1 k.state) (sym e) (send-comes (lacks_head id k) id bytes k.state)) p s.client s.streams c)
   where
-    kept : k.state.violation ≡ None
-        → (if is_some k.state.violation then k.state
-        else handing (lacks_head id k) (frame.Data id bytes false (length bytes)) k.state)
-        ≡ handing (lacks_head id k) (frame.Data id bytes false (length bytes)) k.state
+    f : Frame
+    f = frame.Data id bytes false (length bytes)
+
+    kept : k.state.violation ≡ None → handing_unless (lacks_head id k) f k.state ≡ handing (lacks_head id k) f k.state
     kept v = rw v refl

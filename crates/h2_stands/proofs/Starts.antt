@@ -1,7 +1,9 @@
 -- A session begins as its account does.
-use Rattle.std.proofs.Common.{◌≡◌, ℕ, ◌≤◌, ◌%◌, Bool, true, false, ◌&&◌, ◌==◌, [], refl, sym, ◌∙◌, ap, subst, if◌then◌else◌, arith, nat_le, nat_lt}
+use Rattle.std.proofs.Common.{◌≡◌, ℕ, ◌≤◌, ◌<◌, ◌%◌, Bool, true, false, ◌&&◌, ◌==◌, [], refl, sym, ◌∙◌, ap, subst, if◌then◌else◌, arith, nat_le, nat_lt}
 use Rattle.std.proofs.lemmas.Bool.Decides.{nat_tests}
+use Rattle.std.proofs.lemmas.List.Elements.{All-nil}
 use Rattle.h2_model.specs.History.{start}
+use Rattle.h2_model.specs.State.{State, seen}
 use Rattle.h2_calls.specs.Calling.{starting}
 use Rattle.h2_calls.proofs.Start.{start-seen, start-valid, start-sound, start-headless}
 use Rattle.h2_feeds.proofs.Parts.{part-start}
@@ -9,8 +11,9 @@ use Rattle.h2_rooms.proofs.Begins.{start-counted}
 use Rattle.h2_streams.specs.Known.{HasOpened}
 use Rattle.h2_stands.specs.Kept.{Kept, IsNew}
 use Rattle.h2_stands.specs.Rooms.{IsRoomy}
-use Rattle.h2_stands.specs.StandsFor.{IsSound, Lacks, Reads, Holds}
+use Rattle.h2_stands.specs.StandsFor.{AreBelow, IsSound, Lacks, Reads, Holds}
 use Rattle.h2_stands.proofs.Heading.{start-heads}
+use Rattle.h2_stands.proofs.Holding.{tabled}
 
 new-sound : (client : Bool) → IsSound (start client)
 unfolding start
@@ -47,6 +50,7 @@ new-lacks : (client : Bool) (k : Kept) → IsNew client k → Lacks k (start cli
 unfolding start
 new-lacks client k n = record {
   known = subst (λ m. HasOpened m (start client)) (sym n.numbers) (new-numbers client);
+  gaps = subst AreBelow (sym n.numbers) (All-nil (λ gap. gap.last < 1));
   headless = λ id. start-headless client id ∙ by k.client (nat_le k.headless id);
   odd = ap (λ z. z % 2) n.headless;
   within = λ c. rw (n.headless, n.numbers) (omega arith);
@@ -91,7 +95,8 @@ pub new-held : (client : Bool) (k : Kept) → IsNew client k → Holds k (start 
 unfolding start
 new-held client k n = record {
   sound = new-sound client;
-  state = n.state ∙ sym (start-seen client);
+  state = tabled k.state (seen (start client)) begun;
+  table = λ v. ap (λ (s : State). s.table) begun;
   role = n.role;
   streams = new-lacks client k n;
   reads = λ v. new-reads client k n;
@@ -99,3 +104,6 @@ new-held client k n = record {
   encodes = n.entries;
   room = new-roomy client k n;
 }
+  where
+    begun : k.state ≡ seen (start client)
+    begun = n.state ∙ sym (start-seen client)

@@ -1,11 +1,11 @@
 -- `take` leaves what the account after it says.
-use Rattle.std.proofs.Common.{◌≡◌, ℕ, zero, suc, ◌+◌, ◌≤◌, List, [], ◌∷◌, length, refl, sym, ◌∙◌, subst, arith, le_refl}
+use Rattle.std.proofs.Common.{◌≡◌, ℕ, zero, suc, ◌+◌, ◌≤◌, List, [], ◌∷◌, length, refl, sym, ◌∙◌, ap, subst, arith, le_refl}
 use Rattle.h2_frames.specs.declared.frame.Frame.{Frame}
 use Rattle.h2_frames.specs.declared.frame.Frame.TheVariants as frame
 use Rattle.h2_model.specs.Log.{violation}
 use Rattle.h2_model.specs.Streams.{opened}
 use Rattle.h2_model.specs.Blocks.{open_block}
-use Rattle.h2_model.specs.Queue.{whole_within}
+use Rattle.h2_model.specs.Queue.{behind, whole_within}
 use Rattle.h2_model.specs.Account.{Account, is_headless}
 use Rattle.h2_model.specs.History.{called, Take}
 use Rattle.h2_model.specs.State.{State, seen}
@@ -21,7 +21,7 @@ use Rattle.h2_stands.specs.Rooms.{KeepsCapacity}
 use Rattle.h2_stands.specs.StandsFor.{IsSound, Holds}
 use Rattle.h2_stands.proofs.Sums.{length-behind, closings-behind, credits-adjusted}
 use Rattle.h2_stands.proofs.Heading.{take-heads}
-use Rattle.h2_stands.proofs.Holding.{Leaves, holding}
+use Rattle.h2_stands.proofs.Holding.{Leaves, SparesTable, holding}
 use Rattle.h2_stands.proofs.Roominess.{Pays, pays-roomy}
 use Rattle.h2_stands.proofs.Handing.{Alike, leaves}
 
@@ -56,6 +56,22 @@ take-pays n s = record {
   closings_kept = rw (all-held (whole_within n s.waiting) s) (le_refl (closings_held s.held + length s.held));
 }
 
+-- The decoder's table
+
+one-spares : (f : Frame) → SparesTable (giving f)
+unfolding giving
+one-spares (frame.Window zero n) t s = refl
+one-spares (frame.Window (suc id) n) t s = refl
+one-spares f t s = refl
+
+all-spares : (fs : List Frame) → SparesTable (giving_all fs)
+all-spares [] t s = refl
+all-spares (f ∷ fs) t s = ap (giving_all fs) (one-spares f t s) ∙ all-spares fs t (giving f s)
+
+taking-spares : (n : ℕ) → SparesTable (taking n)
+unfolding taking
+taking-spares n t s = λ i. record (all-spares (whole_within n s.waiting) t s i) { waiting = behind n s.waiting }
+
 -- The call
 
 take-becomes : (n : ℕ) (a : Account) → IsSound a → Becomes (called (Take n) a) (opened a.log) (is_headless a) (taking n (seen a))
@@ -82,5 +98,5 @@ take-leaves n a s = leaves (Take n) a s refl (take-counted n a s.counted) (take-
 pub take-held : (k l : Kept) (n : ℕ) (a : Account) → Holds k a → IsSame k l → KeepsCapacity k l → l.state ≡ taking n k.state
     → Holds l (called (Take n) a)
 take-held k l n a h s c e =
-    holding k l a (called (Take n) a) (taking n (seen a)) h (take-becomes n a h.sound) (e ∙ (λ i. taking n (h.state i))) s
-    (take-leaves n a h.sound) (pays-roomy k l h.room (subst (Pays k.state) (sym e) (take-pays n k.state)) s c)
+    holding k l a (called (Take n) a) (taking n) (taking-spares n) h (take-becomes n a h.sound) e s (take-leaves n a h.sound)
+    (pays-roomy k l h.room (subst (Pays k.state) (sym e) (take-pays n k.state)) s c)

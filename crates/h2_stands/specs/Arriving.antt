@@ -1,5 +1,5 @@
 -- What a frame that comes in, and what `feed`, leave.
-use Rattle.std.specs.Prelude.{ℕ, ◌≡◌, ◌<◌, ◌^◌, List, [], None, Some}
+use Rattle.std.specs.Prelude.{ℕ, ◌≡◌, [], None, Some}
 use Rattle.h2_frames.specs.declared.frame.Frame.{Frame}
 use Rattle.h2_model.specs.declared.answers.Event.{Event}
 use Rattle.h2_model.specs.declared.answers.Event.TheVariants as event
@@ -7,7 +7,7 @@ use Rattle.h2_model.specs.declared.answers.SessionFault.{SessionFault}
 use Rattle.h2_model.specs.declared.answers.SessionFault.TheVariants.{Code, Memory}
 use Rattle.h2_model.specs.Log.{violation}
 use Rattle.h2_model.specs.Account.{Account}
-use Rattle.h2_model.specs.History.{answered, arrived, violated}
+use Rattle.h2_model.specs.History.{answered, arrived}
 use Rattle.h2_model.specs.Calls.{event_or_nothing}
 use Rattle.h2_stands.specs.Kept.{Kept}
 use Rattle.h2_stands.specs.StandsFor.{Holds}

@@ -1,5 +1,5 @@
 -- What a session stands for: the history of its calls.
-use Rattle.std.specs.Prelude.{ℕ, ◌≡◌, ◌≤◌, ◌&&◌, ◌==◌, ◌%◌, true, false, List, [], take, nat_le, None, All}
+use Rattle.std.specs.Prelude.{ℕ, ◌≡◌, ◌≤◌, ◌<◌, ◌&&◌, ◌==◌, ◌%◌, true, false, List, [], take, nat_le, None, All}
 use Rattle.h2_model.specs.Log.{violation, stream_of}
 use Rattle.h2_model.specs.Streams.{is_opened, has_head}
 use Rattle.h2_model.specs.Blocks.{open_block}
@@ -13,6 +13,7 @@ use Rattle.h2_calls.specs.Sound as calls
 use Rattle.h2_feeds.specs.Feeding.{KeepsPart}
 use Rattle.h2_rooms.specs.Rooms.{Counted}
 use Rattle.h2_streams.specs.Known.{HasOpened}
+use Rattle.h2_streams.specs.Opened.{Opened}
 use Rattle.h2_stands.specs.Kept.{Kept}
 use Rattle.h2_stands.specs.Rooms.{IsRoomy}
 
@@ -30,9 +31,14 @@ pub record IsSound (a : Account) : Type 0 where
   pub part : KeepsPart a
   pub heads : KnowsHeads a
 
+-- what was passed over is below what can be opened
+abbrev pub AreBelow : Opened → Type 0
+AreBelow n = All (λ gap. gap.last < n.next) n.gaps
+
 -- the streams of a client are all odd numbers below the next, without a head from one of them on
 pub record Lacks (k : Kept) (a : Account) : Type 0 where
   pub known : HasOpened k.numbers a
+  pub gaps : AreBelow k.numbers
   pub headless : (id : ℕ) → is_headless a id ≡ (k.client && nat_le k.headless id && is_opened id a.log)
   pub odd : k.headless % 2 ≡ 1
   pub within : k.client ≡ true → k.headless ≤ k.numbers.next
@@ -50,7 +56,9 @@ pub record Reads (k : Kept) (a : Account) : Type 0 where
 -- the parts hold what the account says; nothing is read after a violation
 pub record Holds (k : Kept) (a : Account) : Type 0 where
   pub sound : IsSound a
-  pub state : k.state ≡ seen a
+  -- a block that can't be decoded leaves no table of use: it ends the session
+  pub state : k.state ≡ record (seen a) { table = k.state.table }
+  pub table : violation a.log ≡ None → k.state.table ≡ (seen a).table
   pub role : k.client ≡ a.client
   pub streams : Lacks k a
   pub reads : violation a.log ≡ None → Reads k a
