@@ -47,7 +47,7 @@ seen-block : (a : Account) → (seen a).block ≡ open_block a.log
 unfolding seen
 seen-block a = refl
 
-seen-table : (a : Account) → (seen a).table ≡ table_after (blocks a.log)
+pub seen-table : (a : Account) → (seen a).table ≡ table_after (blocks a.log)
 unfolding seen
 seen-table a = refl
 

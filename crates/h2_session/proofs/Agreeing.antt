@@ -12,7 +12,7 @@ use Rattle.h2_model.specs.State.{seen, live, stream_of_log}
 use Rattle.h2_model.specs.Valid.{Descends}
 use Rattle.h2_model.proofs.Lives.{found, found-live}
 use Rattle.h2_calls.proofs.Lists.{both-left, both-right, same-number}
-use Rattle.h2_stands.specs.Kept.{Kept}
+use Rattle.h2_stands.specs.Kept.{Kept, lacks_head}
 use Rattle.h2_stands.specs.StandsFor.{Holds}
 use Rattle.h2_stands.proofs.Holding.{lacks-head}
 use Rattle.h2_stands.proofs.Heads.{first-headless}
@@ -78,6 +78,18 @@ first-found k b g id first l = by (next_head b) refl
         let lacking : is_headless b n ≡ true = found-passes (λ m. is_headless b m) (reverse (opened b.log)) n e in
         let same : n ≡ id = first-headless k b g n (inl e) lacking ∙ sym first in
         e ∙ ap (λ (m : ℕ). Some m) same
+
+-- a head may be handed over exactly where it is the next one, or where the stream has its head and is open on this side
+pub may-head-first : (k : Kept) (a : Account) → Holds k a → (id : ℕ) → lacks_head id k ≡ true → (k.headless == id) ≡ true → MayHead id a
+may-head-first k a h id l e = inl (first-found k a h id (sym (eqb-true k.headless id e)) (sym (lacks-head k a h id) ∙ l))
+
+pub first-of-all : (k : Kept) (a : Account) → Holds k a → (id : ℕ) → lacks_head id k ≡ true → MayHead id a → (k.headless == id) ≡ true
+first-of-all k a h id l m = ap (λ n. n == id) (sym (first-headless k a h id m (sym (lacks-head k a h id) ∙ l))) ∙ same-number id
+
+pub open-behind-head : (k : Kept) (a : Account) → Holds k a → (id : ℕ) → lacks_head id k ≡ false → MayHead id a → is_open_here id a ≡ true
+open-behind-head k a h id l (inl e) =
+    absurd (true≢false (sym (found-passes (λ n. is_headless a n) (reverse (opened a.log)) id e) ∙ sym (lacks-head k a h id) ∙ l))
+open-behind-head k a h id l (inr o) = o.1
 
 pub head-same : (k : Kept) (a b : Account) → Holds k a → Holds k b → (id : ℕ) → MayHead id a → MayHead id b
 head-same k a b h g id m = ⊎_elim first later m

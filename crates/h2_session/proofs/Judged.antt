@@ -4,8 +4,9 @@ use Rattle.h2_frames.specs.declared.frame.Frame.{Frame}
 use Rattle.h2_model.specs.declared.stream.Stream.{Stream}
 use Rattle.h2_model.specs.Account.{Account, is_headless}
 use Rattle.h2_model.specs.Blocks.{OpenBlock, open_block, block_with, whole_block, decoded_with, fields_or_none}
+use Rattle.h2_model.specs.Calls.{is_open_here}
 use Rattle.h2_model.specs.Codes.{first_row}
-use Rattle.h2_model.specs.Streams.{is_live, is_ended_by_peer}
+use Rattle.h2_model.specs.Streams.{is_live, is_ended_by_peer, is_ended_here}
 use Rattle.h2_model.specs.Duties.{is_open_from_peer, owed_for, reset_for, update}
 use Rattle.h2_session.specs.Steps.{due_frames}
 use Rattle.ext_msgs.specs.declared.lists.Field.{Field}
@@ -40,6 +41,14 @@ its-stream ss a id t e f = from-live (is_live id a.log) (stream_of_log id a) t (
 pub no-stream : (ss : List Stream) (a : Account) (id : ℕ) → ss ≡ streams a → None ≡ found id ss → is_live id a.log ≡ false
 unfolding live
 no-stream ss a id e f = from-none (is_live id a.log) (stream_of_log id a) (sym (f ∙ looked ss a id e))
+
+-- and whether it is open on this side
+pub its-openness : (t : Stream) (id : ℕ) (a : Account) → (is_live id a.log ≡ true) × (t ≡ stream_of_log id a) → not t.here_ended ≡ is_open_here id a
+unfolding stream_of_log
+its-openness t id a x = ap (λ s. not s.here_ended) x.1 ∙ ap (λ l. l && not (is_ended_here id a.log)) (sym x.0)
+
+pub no-openness : (id : ℕ) (a : Account) → is_live id a.log ≡ false → false ≡ is_open_here id a
+no-openness id a l = ap (λ x. x && not (is_ended_here id a.log)) (sym l)
 
 -- the rows, by what they test
 pub rows-are : (a : Account) (f : Frame) (x1 x2 x3 x4 x5 x6 x7 x8 x9 x10 : Bool)

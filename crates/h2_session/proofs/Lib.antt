@@ -10,6 +10,7 @@ pub mod Charges
 pub mod Counting
 pub mod Endings
 pub mod Fits
+pub mod Holdings
 pub mod Increments
 pub mod Judged
 pub mod Opening

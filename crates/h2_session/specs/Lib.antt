@@ -1,5 +1,6 @@
 pub mod Accepting
 pub mod Arrivals
+pub mod Bytes
 pub mod Feeding
 pub mod Keeping
 pub mod Refused

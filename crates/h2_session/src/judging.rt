@@ -423,7 +423,8 @@ pub(crate) fn event_of(
     }
 }
 
-fn is_live(streams: &StreamTable, id: u32) -> bool
+/// Whether a stream is live.
+pub(crate) fn is_live(streams: &StreamTable, id: u32) -> bool
     ensures { (b : Account) → streams.now.streams ≡ live_streams b → result ≡ is_live id b.log }
 {
     match streams.get(id) {

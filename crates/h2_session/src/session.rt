@@ -2,6 +2,7 @@
 
 ghost use Rattle.std.specs.Prelude.{◌≡◌, ◌≤◌, ◌<◌, ◌+◌, ◌-◌, ◌*◌, ◌^◌, ◌∷◌, ◌&&◌, ◌⊎◌, ◌==◌, [], List, ℕ, take, drop, length, true, false, All, IfOk, OnOk, OnErr, is_some, if◌then◌else◌, min, Some, None, pos, negsuc, ◌≤ℤ◌, ◌-ℤ◌, ◌+ℤ◌, nat_le};
 ghost use Rattle.std.specs.Option.{option_to_list};
+ghost use Rattle.hpack_core.specs.Tables.{kept};
 ghost use Rattle.h2_frames.specs.declared.frame.Frame.TheVariants as frame;
 ghost use Rattle.h2_model.specs.Calls.{Gives, MayHead, Role, can_open, control, is_open_here, kept_streams, now, sendable, unsent_bytes, waits};
 ghost use Rattle.h2_model.specs.History.{Call, Feed, Open, Head, Send, Finish, Reset, Take, next_number};
@@ -11,6 +12,7 @@ ghost use Rattle.h2_model.specs.Windows.{stream_window};
 ghost use Rattle.h2_model.specs.declared.stream.Stream.{Stream};
 ghost use Rattle.h2_model.proofs.Lives.{found};
 ghost use Rattle.h2_sender.specs.Sending.{data_kept};
+ghost use Rattle.h2_session.specs.Bytes.{begun_bytes, kept_bytes};
 ghost use Rattle.h2_session.specs.Keeping.{CanGive, CanGiveWhole, KeepsRoom, KeepsRooms, heading_as, leaves_a_stream, update_in};
 ghost use Rattle.h2_streams.specs.Changes.{Allows};
 ghost use Rattle.h2_streams.specs.declared.changes.Change.TheVariants.{DataSent};
@@ -18,6 +20,7 @@ ghost use Rattle.h2_stands.specs.Kept.{IsBeside, IsSame, lacks_head};
 ghost use Rattle.h2_stands.specs.Rooms.{HasSpare, KeepsCapacity};
 ghost use Rattle.h2_stands.specs.StandsFor.{Stands, StandsFor};
 
+use crate::judging::is_live;
 use ext_msgs::FieldList;
 use h2_frames::{Frame, FrameReader};
 use h2_model::NoStream;
@@ -405,6 +408,35 @@ impl Session {
         self.streams.change(id, Change::UpdateGiven(n));
     }
 
+    /// Whether the stream is live: `reset` and `window` take any that is.
+    pub fn is_live(&self, id: u32) -> bool
+        ensures { (r : Role) (h : List Call) → StandsFor r self.now h → result ≡ is_live id (now r h).log }
+    {
+        is_live(&self.streams, id)
+    }
+
+    /// Whether the stream is live and open on this side: `send` and `finish` take any that is.
+    pub fn may_send(&self, id: u32) -> bool
+        ensures { (r : Role) (h : List Call) → StandsFor r self.now h → result ≡ is_open_here id (now r h) }
+    {
+        match self.streams.get(id) {
+            Some(stream) => !stream.here_ended,
+            None => false,
+        }
+    }
+
+    /// Whether `head` may be called: with the next stream that lacks a head, or behind the head of a stream that is open on
+    /// this side.
+    pub fn may_head(&self, id: u32) -> bool
+        ensures may { (r : Role) (h : List Call) → StandsFor r self.now h → result ≡ true → MayHead id (now r h) }
+        ensures only { (r : Role) (h : List Call) → StandsFor r self.now h → MayHead id (now r h) → result ≡ true }
+    {
+        if self.is_headless(id) {
+            return self.headless == id;
+        }
+        self.may_send(id)
+    }
+
     /// What the stream's window lets go out, which may be negative: RFC 9113 section 6.9.2.
     pub fn window(&self, id: u32) -> i64
         requires { Stands self.now (λ r h. is_live id (now r h).log ≡ true) }
@@ -423,6 +455,39 @@ impl Session {
         ensures { (r : Role) (h : List Call) → StandsFor r self.now h → result ≡ min (control (now r h)) (2 ^ 64 - 1) }
     {
         self.sender.control()
+    }
+
+    /// The length of what is kept but for bytes that `send` took, counted to 2^64 - 1: the frame and the block that were
+    /// begun, the decoder's table, and the frames other than DATA that wait. After a connection error, when nothing is read
+    /// any more, it is what waits.
+    pub fn held(&self) -> u64
+        ensures { (r : Role) (h : List Call) → StandsFor r self.now h → result ≡ min (kept_bytes (now r h)) (2 ^ 64 - 1) }
+    {
+        let waiting = self.sender.control();
+        if self.violation.is_some() {
+            return waiting;
+        }
+        waiting.saturating_add(self.input())
+    }
+
+    // The length of what came in and isn't used up: RFC 9113 section 4.1, 4.3.
+    fn input(&self) -> u64
+        ensures { result ≡ min (length self.now.reader + begun_bytes self.now.state.block + kept self.now.state.table.entries) (2 ^ 64 - 1) }
+    {
+        self.reader
+            .held()
+            .saturating_add(self.begun())
+            .saturating_add(self.decoder.held())
+    }
+
+    // The length of the block that was begun.
+    fn begun(&self) -> u64
+        ensures { result ≡ begun_bytes self.now.state.block }
+    {
+        match &self.block {
+            Some(block) => block.bytes.len() as u64,
+            None => 0,
+        }
     }
 
     /// The number of the stream's bytes that `send` took and `take` hasn't given.
