@@ -6,6 +6,7 @@ mod h1;
 mod hpack;
 mod messages;
 mod queues;
+mod sessions;
 mod timing;
 
 use anyhow::Result;
@@ -20,6 +21,7 @@ bodies        nanoseconds a byte to read 16 MiB in chunks of 16 KiB and 1 byte, 
 frames        nanoseconds a byte to read DATA frames of 16 KiB
 huffman       megabytes of text a second, in Huffman-coded strings that are read and written
 hpack         header blocks of twelve fields a second that are read and written
+sessions      nanoseconds a frame through a session with 1, 64 and 256 live streams, and a byte of 64 MiB on one stream
 ";
 
 fn main(rt: HostRuntime) -> Result<()> {
@@ -37,6 +39,7 @@ fn main(rt: HostRuntime) -> Result<()> {
         "frames" => frames::print_table(&rt)?,
         "huffman" => hpack::print_huffman(&rt)?,
         "hpack" => hpack::print_blocks(&rt)?,
+        "sessions" => sessions::print_table(&rt)?,
         _ => eprint!(rt; "{LIST}")?,
     }
     Ok(())
