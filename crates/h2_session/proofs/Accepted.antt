@@ -1,7 +1,7 @@
 -- A frame that is no connection error, from the block that it ends to what is owed for it: what the session holds is what the
 -- account says, and it tells what the account brings.
-use Rattle.std.proofs.Common.{◌≡◌, ℕ, ◌≤◌, false, nat_lt, List, [], Option, Some, None, Result, Ok, Err, IfOk, length, drop, map, refl, sym, ◌∙◌, ap, subst, arith}
-use Rattle.std.proofs.lemmas.Bool.Decides.{nat_tests}
+use Rattle.std.proofs.Common.{◌≡◌, ℕ, List, [], Option, Some, None, length, drop, map, refl, sym, ◌∙◌, ap, subst, arith}
+use Rattle.std.proofs.lemmas.Bool.{ltb-false}
 use Rattle.hpack_core.specs.Tables as hpack
 use Rattle.hpack_core.specs.Reading.{block_of}
 use Rattle.h2_frames.specs.declared.frame.Frame.{Frame}
@@ -41,28 +41,9 @@ use Rattle.h2_session.proofs.Fits.{can-count, early-passes, passes, widens-still
 use Rattle.h2_session.proofs.Judged.{seen-block as seen-begun, seen-streams, seen-unreturned, seen-window}
 use Rattle.h2_session.proofs.Opening.{can-open, opening-client, opening-lacks}
 use Rattle.h2_session.proofs.Roomy.{arriving-comes, capacity-then, roomy-after}
-
--- the block that was begun, and the table, by what is seen of them
-seen-block : (a : Account) → (seen a).block ≡ open_block a.log
-unfolding seen
-seen-block a = refl
-
-pub seen-table : (a : Account) → (seen a).table ≡ table_after (blocks a.log)
-unfolding seen
-seen-table a = refl
-
-seen-unreported : (a : Account) → (seen a).unreported ≡ a.unreported
-unfolding seen
-seen-unreported a = refl
-
-pub on-ok : {A E : Type 0} {P Q : A → Type 0} → ((x : A) → P x → Q x) → (r : Result A E) → IfOk r P → IfOk r Q
-on-ok g (Ok x) p = g x p
-on-ok g (Err e) p = tt
+use Rattle.h2_session.proofs.Seen.{seen-block, seen-table, seen-unreported}
 
 -- A block that can't be decoded
-
-within : (n : ℕ) → nat_lt 65536 n ≡ false → n ≤ 65536
-within n e = grind (arith, nat_tests, e)
 
 pub undecoded-breaks : (k l : Kept) (a : Account) (f : Frame) → Holds k a → violation a.log ≡ None → first_row (early_rows a f) ≡ None
     → (code : ℕ) → IsUndecoded code (whole_with k.state.block f) k l → Breaks l f a code
@@ -78,7 +59,7 @@ undecoded-breaks k l a f h n e code u = by (whole_with k.state.block f) refl u
     by None q u = absurd u
     by (Some o) q u =
         let ends : whole_block a.log f ≡ Some o = sym whole ∙ q in
-        let short = within (length o.bytes) (short-block a f o ends (passes a f e).short) in
+        let short = ltb-false 65536 (length o.bytes) (short-block a f o ends (passes a f e).short) in
         breaks l a f code
         (late-breaks a f o code e ends (ap (λ t. code_of (block_of t o.bytes)) (sym table) ∙ u.told short))
         (faulty-held k u.after l a code h n u.kept u.fails)
@@ -147,7 +128,7 @@ module _ (k : Kept) (f : Frame) (w : Option Whole) (a : Account) (p : IsAccepted
   -- once the stream is opened, with room for what comes
   module _ (k1 m : Kept) (s1 : k1.state ≡ opening_for (λ id. has id k.numbers) f k.state) (n1 : k1.numbers ≡ numbers_with f k.numbers)
       (o1 : IsBeside k k1) (h1 : k1.headless ≡ k.headless) (c1 : KeepsCapacity k k1)
-      (s2 : m.state ≡ k1.state) (o2 : IsSame k1 m) (c2 : KeepsCapacity k1 m) (r2 : HasSpare 4 m) where
+      (s2 : m.state ≡ k1.state) (o2 : IsSame k1 m) (c2 : KeepsCapacity k1 m) (r2 : HasSpare 3 m) where
     opened-as : m.state ≡ opening (record (seen a) { table = k.state.table })
     opened-as = s2 ∙ s1 ∙ (λ i. opening_for (λ id. lacks.known.known id i) f (seen-still i))
 
@@ -212,12 +193,12 @@ module _ (k : Kept) (f : Frame) (w : Option Whole) (a : Account) (p : IsAccepted
       }
 
       roomy : IsRoomy l
-      roomy = roomy-after 4 k m l (roomy-parts before k p.kept p.holds.room) (capacity-then k k1 m c1 c2)
+      roomy = roomy-after 3 k m l (roomy-parts before k p.kept p.holds.room) (capacity-then k k1 m c1 c2)
           (record { client = o2.client ∙ o1.client; streams = o2.streams ∙ o1.streams }) r2 c3 (record { client = o3.client; streams = o3.streams }) comes
         where
-          comes : Comes 4 m.state l.state
-          comes = subst (Comes 4 m.state) (sym s.state)
-              (arriving-comes 4 (λ id. lacks_head id m) f w e (refused_ids m.client f m.state.streams)
+          comes : Comes 3 m.state l.state
+          comes = subst (Comes 3 m.state) (sym s.state)
+              (arriving-comes 3 (λ id. lacks_head id m) f w e (refused_ids m.client f m.state.streams)
               (map refused (refused_ids m.client f m.state.streams)) (owed_for b f) m.state (omega (arith, s.few)))
 
       unreported : (arrived f a).unreported ≡ events_of b f

@@ -156,7 +156,7 @@ same-numbers (x ∷ xs) (y ∷ ys) d f e =
     let e' : has_same (x ∷ xs) (x ∷ ys) = subst (λ z. has_same (x ∷ xs) (z ∷ ys)) same e in
     ap (λ zs. x ∷ zs) (same-numbers xs ys d.2 f'.2 (rest-same x xs ys d f' e')) ∙ ap (λ z. z ∷ ys) (sym same)
 
-pub opened-same : (k : Kept) (a b : Account) → Holds k a → Holds k b → opened b.log ≡ opened a.log
+opened-same : (k : Kept) (a b : Account) → Holds k a → Holds k b → opened b.log ≡ opened a.log
 opened-same k a b h g = same-numbers (opened b.log) (opened a.log) g.sound.valid.descends h.sound.valid.descends
     (λ id. sym (g.streams.known.known id) ∙ h.streams.known.known id)
 

@@ -9,7 +9,6 @@ use Rattle.h2_model.specs.Log.{is_empty, violation}
 use Rattle.h2_model.specs.Account.{Account}
 use Rattle.h2_model.specs.History.{Call, Feed, answered, called}
 use Rattle.h2_model.specs.Calls.{IsFault, IsFed, Role, event_or_nothing, now, used_bytes}
-use Rattle.h2_model.specs.State.{seen}
 use Rattle.h2_feeds.specs.Feeding.{EndsAt}
 use Rattle.h2_feeds.proofs.Steps.{starts, ends-stopped, answers, refuses, leaves}
 use Rattle.h2_feeds.proofs.Uses.{used-whole}
@@ -20,12 +19,9 @@ use Rattle.h2_stands.proofs.Holding.{violation-kept}
 use Rattle.h2_stands.proofs.Histories.{one-more}
 use Rattle.h2_session.specs.Feeding.{KeepsRole, Runs, Refuses}
 use Rattle.h2_session.proofs.Endings.{if-code}
+use Rattle.h2_session.proofs.Seen.{seen-unreported}
 use Rattle.h2_session.specs.Refused.{refused}
 use Rattle.h2_session.proofs.Aside.{event-aside, answered-none}
-
-seen-unreported : (a : Account) → (seen a).unreported ≡ a.unreported
-unfolding seen
-seen-unreported a = refl
 
 some-stops : (us : List Event) (v : Option ℕ) (code : ℕ) → v ≡ Some code → (not (is_empty us) || is_some v) ≡ true
 some-stops [] v code e = ap is_some e

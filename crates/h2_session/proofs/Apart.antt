@@ -68,7 +68,7 @@ receiving-quiet (frame.Window zero n) s = refl
 receiving-quiet (frame.Window (suc id) n) s = refl
 receiving-quiet f s = refl
 
-pub reported-aside : (e : Event) (us : List Event) (s : State) → reported e (record s { unreported = us }) ≡ record (reported e s) { unreported = us }
+reported-aside : (e : Event) (us : List Event) (s : State) → reported e (record s { unreported = us }) ≡ record (reported e s) { unreported = us }
 unfolding reported resetting
 reported-aside (event.Head id fields last) us s = refl
 reported-aside (event.Reset id code) us s = refl
@@ -89,7 +89,7 @@ owing-all-aside headless (f ∷ fs) us s =
     ap (owing_frames headless fs) (owing-aside (headless (stream_of f)) f us s) ∙ owing-all-aside headless fs us (owing_frame (headless (stream_of f)) f s)
 
 -- streams that are refused are told one by one
-pub tells-refused : (ids : List ℕ) (us : List Event) (s : State)
+tells-refused : (ids : List ℕ) (us : List Event) (s : State)
     → telling_all (map refused ids) (record s { unreported = us }) ≡ record (resetting_all ids s) { unreported = us ++ map refused ids }
 unfolding reported resetting
 tells-refused [] us s = ap (λ (x : List Event). record s { unreported = x }) (sym (append-nil us))

@@ -37,7 +37,7 @@ reported-nothing : (e : Event) (s : State) → e ≡ event.Nothing → reported 
 unfolding reported
 reported-nothing e s q = ap (λ (x : Event). reported x s) q
 
-pub all-told : (e : Event) (ids : List ℕ) (es : List Event) (s : State) → s.unreported ≡ [] → IsTold e ids es
+all-told : (e : Event) (ids : List ℕ) (es : List Event) (s : State) → s.unreported ≡ [] → IsTold e ids es
     → (telling_all es s ≡ record (resetting_all ids (reported e s)) { unreported = es }) × (map refused ids ≡ drop 1 es)
 all-told e ids es s q (inl t) = (
   ap (λ x. telling_all x s) t.2 ∙ sym (λ i. record (resetting_all (t.1 i) (reported-nothing e s t.0 i)) { unreported = (t.2 ∙ sym q) i }),

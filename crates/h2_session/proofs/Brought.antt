@@ -1,5 +1,6 @@
 -- What a frame brings: the event that is told, and behind it the streams that are refused.
 use Rattle.std.proofs.Common.{◌≡◌, ◌≢◌, inl, inr, ℕ, Bool, true, false, if◌then◌else◌, List, [], ◌∷◌, Option, Some, None, refl, sym, ◌∙◌, ap, map, filter, nat_lt}
+use Rattle.std.proofs.lemmas.Simd.{map-map}
 use Rattle.ext_msgs.specs.declared.lists.Field.{Field}
 use Rattle.h2_frames.specs.declared.frame.Frame.{Frame}
 use Rattle.h2_frames.specs.declared.frame.Frame.TheVariants as frame
@@ -52,10 +53,6 @@ tells-by b f w live h = by (stream_fault b f)
 
 -- Streams that GOAWAY refuses
 
-map-twice : (ts : List Stream) → map (λ t. refused t.id) ts ≡ map refused (map (λ t. t.id) ts)
-map-twice [] = refl
-map-twice (t ∷ ts) = ap (λ x. refused t.id ∷ x) (map-twice ts)
-
 refuses : (b : Account) (last code : ℕ) → reset_by_goaway b last ≡ map refused (refused_ids b.client (frame.GoAway last code) (streams b))
 unfolding seen
 refuses b last code = reset-above b last ∙ by b.client
@@ -64,7 +61,7 @@ refuses b last code = reset-above b last ∙ by b.client
     above = filter (λ t. nat_lt last t.id) (streams b)
 
     by : (c : Bool) → (if c then map (λ t. refused t.id) above else []) ≡ map refused (if c then map (λ t. t.id) above else [])
-    by true = map-twice above
+    by true = sym (map-map refused (λ t. t.id) above)
     by false = refl
 
 goaway-tells : (b : Account) (last code : ℕ) (w : Option Whole) (live : Bool)

@@ -1,5 +1,5 @@
 -- What is owed on a stream that has its head, kind by kind.
-use Rattle.std.proofs.Common.{◌≡◌, ℕ, zero, suc, ◌+◌, ◌-◌, length, refl, ap, arith, le_refl, ℤ, pos, ◌-ℤ◌}
+use Rattle.std.proofs.Common.{◌≡◌, ℕ, zero, suc, ◌-◌, refl, ap, arith, ℤ, pos, ◌-ℤ◌}
 use Rattle.std.proofs.lemmas.Int.{ints}
 use Rattle.h2_frames.specs.declared.frame.Frame.{Frame}
 use Rattle.h2_frames.specs.declared.frame.Frame.TheVariants as frame
@@ -7,8 +7,6 @@ use Rattle.h2_model.specs.Queue.{data_in}
 use Rattle.h2_model.specs.State.{State}
 use Rattle.h2_session.specs.Steps.{IsOwed}
 use Rattle.h2_model.specs.Moves.{adjusted, charged, resetting, with_update}
-use Rattle.h2_stands.specs.Kept.{Kept}
-use Rattle.h2_stands.specs.Rooms.{KeepsCapacity}
 
 pub charged-connection : (id n : ℕ) (s : State) → id ≡ 0 → charged (frame.Window id n) s ≡ record s { unreturned = s.unreturned - n }
 unfolding charged
@@ -35,7 +33,7 @@ charged-other (frame.Window id n) s r w = absurd (w id n refl)
 charged-other f s r w = refl
 
 -- what is owed has no bytes of a body
-pub no-data : (f : Frame) → IsOwed f → data_in 0 f ≡ 0
+no-data : (f : Frame) → IsOwed f → data_in 0 f ≡ 0
 no-data frame.SettingsAck o = refl
 no-data (frame.Ping ack bytes) o = refl
 no-data (frame.Window id n) o = refl
@@ -47,10 +45,3 @@ less-nothing w n e = omega (arith, ints, e)
 
 pub window-kept : (f : Frame) (w : ℤ) → IsOwed f → w -ℤ pos (data_in 0 f) ≡ w
 window-kept f w o = less-nothing w (data_in 0 f) (no-data f o)
-
-pub keeps-all : (k : Kept) → KeepsCapacity k k
-keeps-all k = record {
-  queue = le_refl (k.room + length k.state.waiting);
-  held = le_refl (k.held_room + length k.state.held);
-  table = le_refl (k.table_room + length k.state.streams);
-}

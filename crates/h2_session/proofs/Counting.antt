@@ -1,5 +1,5 @@
 -- How a frame counts, kind by kind.
-use Rattle.std.proofs.Common.{◌≡◌, ℕ, zero, suc, ◌+◌, ◌-◌, ◌<◌, ◌^◌, Bool, true, false, List, Some, None, Result, Ok, Err, OnOk, refl, ◌∙◌, ap, if◌then◌else◌, min, arith}
+use Rattle.std.proofs.Common.{◌≡◌, ℕ, zero, suc, ◌+◌, ◌-◌, ◌<◌, ◌^◌, Bool, true, false, List, Some, None, refl, ◌∙◌, ap, if◌then◌else◌, min, arith}
 use Rattle.h2_frames.specs.declared.frame.Setting.{Setting}
 use Rattle.h2_frames.specs.declared.frame.Frame.{Frame}
 use Rattle.h2_frames.specs.declared.frame.Frame.TheVariants as frame
@@ -11,10 +11,6 @@ use Rattle.h2_session.specs.Steps.{CanCount, CanTake, IsAbsorbed}
 
 pub min-below : (n : ℕ) → n < 2 ^ 32 → min n 4294967295 ≡ n
 min-below n l = omega (arith, l)
-
-pub on-ok : {A E P Q : Type 0} (r : Result A E) → (P → Q) → OnOk r P → OnOk r Q
-on-ok (Ok x) g p = g p
-on-ok (Err e) g p = tt
 
 pub counts-headers : (f : Frame) (id : ℕ) (part bytes : List ℕ) (last ends : Bool) (s t : State) → f ≡ frame.Headers id part last ends → bytes ≡ part
     → s.first ≡ false

@@ -1,6 +1,6 @@
 -- A frame that is no connection error fits what is kept: it counts without leaving its types.
-use Rattle.std.proofs.Common.{◌≡◌, ℕ, zero, suc, ◌+◌, ◌-◌, ◌≤◌, ◌<◌, ◌^◌, Bool, true, false, not, ◌&&◌, ◌||◌, Option, Some, None, if◌then◌else◌, nat_lt, refl, sym, ◌∙◌, ap, subst, arith, true≢false, ◌==◌, ℤ, pos, ◌+ℤ◌, ◌≤ℤ◌}
-use Rattle.std.proofs.lemmas.Bool.Decides.{nat_tests}
+use Rattle.std.proofs.Common.{◌≡◌, ℕ, zero, suc, ◌+◌, ◌-◌, ◌≤◌, ◌<◌, ◌^◌, Bool, true, false, not, ◌&&◌, Option, Some, None, if◌then◌else◌, nat_lt, refl, sym, ◌∙◌, ap, subst, arith, true≢false, ◌==◌, ℤ, pos, ◌+ℤ◌, ◌≤ℤ◌}
+use Rattle.std.proofs.lemmas.Bool.{ltb-false, or_parts}
 use Rattle.std.proofs.lemmas.Int.{ints}
 use Rattle.h2_frames.specs.declared.frame.Frame.{Frame}
 use Rattle.h2_frames.specs.declared.frame.Frame.TheVariants as frame
@@ -23,7 +23,7 @@ use Rattle.h2_rules.proofs.Table.{or_row, violation-parts}
 use Rattle.h2_rules.proofs.Kept.{connection, credited, increased}
 use Rattle.h2_session.specs.Steps.{CanCount, CanTake, IsAbsorbed, IsWhole, ending, event_by}
 use Rattle.h2_session.specs.declared.judging.Whole.{Whole}
-use Rattle.h2_session.proofs.Judged.{its-stream, its-unreturned}
+use Rattle.h2_session.proofs.Judged.{its-stream, its-unreturned, some}
 
 -- The rows that don't hold
 
@@ -69,21 +69,14 @@ sums : (received owed given waiting size : ℕ) → received ≤ 65535 + given �
     → size ≤ 65535 + given - received → received - owed + size < 2 ^ 32
 sums received owed given waiting size a b c d = omega (arith, a, b, c, d)
 
-neither : (x y : Bool) → (x || y) ≡ false → (x ≡ false) × (y ≡ false)
-neither true y e = absurd (true≢false e)
-neither false y e = (refl, e)
-
-within : (n size : ℕ) → nat_lt n size ≡ false → size ≤ n
-within n size e = grind (arith, nat_tests, e)
-
 live-within : (l : Bool) (n size : ℕ) → (l && nat_lt n size) ≡ false → l ≡ true → size ≤ n
-live-within true n size e q = within n size e
+live-within true n size e q = ltb-false n size e
 live-within false n size e q = absurd (true≢false (sym q))
 
 pub can-count : (s : State) (b : Account) (f : Frame) → Valid b → exceeds_window b f ≡ false → s.streams ≡ streams b → s.unreturned ≡ unreturned 0 b.log
     → CanCount f s
 can-count s b (frame.Data id bytes last size) v x e u = (
-  subst (λ n. n + size < 2 ^ 32) (sym u) (sums _ _ _ (updates_in 0 b.waiting) size v.received (v.updates 0) (v.returned 0) (within (receiving_window 0 b.log) size n.0)),
+  subst (λ n. n + size < 2 ^ 32) (sym u) (sums _ _ _ (updates_in 0 b.waiting) size v.received (v.updates 0) (v.returned 0) (ltb-false (receiving_window 0 b.log) size n.0)),
   λ t found_t.
       let l = its-stream s.streams b id t e (sym found_t) in
       subst (λ k. k + size < 2 ^ 32) (sym (its-unreturned t id b l.1))
@@ -92,7 +85,7 @@ can-count s b (frame.Data id bytes last size) v x e u = (
 )
   where
     n : (nat_lt (receiving_window 0 b.log) size ≡ false) × ((is_live id b.log && nat_lt (receiving_window id b.log) size) ≡ false)
-    n = neither (nat_lt (receiving_window 0 b.log) size) (is_live id b.log && nat_lt (receiving_window id b.log) size) x
+    n = or_parts (nat_lt (receiving_window 0 b.log) size) (is_live id b.log && nat_lt (receiving_window id b.log) size) x
 can-count s b f v x e u = tt
 
 -- WINDOW_UPDATE
@@ -120,7 +113,7 @@ updated t n id a e =
     ∙ ap (λ w. w +ℤ pos n) (credited (initial_window a.log) id a ∙ ap (λ (s : Stream). pos (initial_window a.log) +ℤ s.credit) (sym e))
 
 -- an increment that is no stream error fits the stream's window
-pub can-take-on : (s : State) (b : Account) (id n : ℕ) → s.streams ≡ streams b → stream_fault b (frame.Window (suc id) n) ≡ None
+can-take-on : (s : State) (b : Account) (id n : ℕ) → s.streams ≡ streams b → stream_fault b (frame.Window (suc id) n) ≡ None
     → CanTake (frame.Window (suc id) n) s
 unfolding stream_fault
 can-take-on s b id n e q = λ t found_t.
@@ -130,7 +123,7 @@ can-take-on s b id n e q = λ t found_t.
     (subst (λ w. w ≤ℤ pos 2147483647) (updated t n (suc id) b l.1)
     (not-wide (window_from (initial_window b.log + n) (suc id) b) (second (n == 0) (is_too_wide (window_from (initial_window b.log + n) (suc id) b)) r)))
 
-pub can-take : (s : State) (a : Account) (n : ℕ) → s.window ≡ connection_window a → widens_connection a (frame.Window 0 n) ≡ false
+can-take : (s : State) (a : Account) (n : ℕ) → s.window ≡ connection_window a → widens_connection a (frame.Window 0 n) ≡ false
     → CanTake (frame.Window 0 n) s
 can-take s a n e w = subst (λ x. (x +ℤ pos n) ≤ℤ pos 2147483647) (sym e)
     (subst (λ x. x ≤ℤ pos 2147483647) (connection n a) (not-wide (window_from (65535 + n) 0 a) w))
@@ -140,9 +133,6 @@ can-take s a n e w = subst (λ x. (x +ℤ pos n) ≤ℤ pos 2147483647) (sym e)
 fault-id : (l : Bool) (id : ℕ) (r : Option ℕ) (s : ℕ × ℕ) → (if l then with_stream id r else None) ≡ Some s → s.0 ≡ id
 fault-id true id None s e = absurd cc
 fault-id true id (Some code) s e = ap (λ x. x.0) (sym (some e))
-  where
-    some : {A : Type 0} {x y : A} → Some x ≡ Some y → x ≡ y
-    some e = cc
 fault-id false id r s e = absurd cc
 
 reset-is : (s : ℕ × ℕ) (t : State) → reported (event.Reset s.0 s.1) t ≡ resetting s.0 t

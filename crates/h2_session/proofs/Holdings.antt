@@ -10,8 +10,8 @@ use Rattle.h2_stands.specs.Kept.{Kept}
 use Rattle.h2_stands.specs.StandsFor.{Holds, Reads}
 use Rattle.h2_stands.proofs.Answers.{control-is}
 use Rattle.h2_session.specs.Bytes.{begun_bytes, input_bytes, kept_bytes}
-use Rattle.h2_session.proofs.Accepted.{seen-table}
 use Rattle.h2_session.proofs.Judged.{seen-block}
+use Rattle.h2_session.proofs.Seen.{seen-table}
 
 pub none-there : {A : Type 0} (o : Option A) → is_some o ≡ false → o ≡ None
 none-there None e = refl

@@ -22,7 +22,7 @@ use Rattle.h2_rules.specs.Rows.{early_rows}
 looked : (ss : List Stream) (a : Account) (id : ℕ) → ss ≡ streams a → found id ss ≡ live id a
 looked ss a id e = ap (found id) e ∙ found-live id a
 
-some : {A : Type 0} {x y : A} → Some x ≡ Some y → x ≡ y
+pub some : {A : Type 0} {x y : A} → Some x ≡ Some y → x ≡ y
 some e = cc
 
 from-live : (c : Bool) (s t : Stream) → (if c then Some s else None) ≡ Some t → (c ≡ true) × (t ≡ s)

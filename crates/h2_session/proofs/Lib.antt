@@ -18,6 +18,7 @@ pub mod Parts
 pub mod Reading
 pub mod Roomy
 pub mod Rows
+pub mod Seen
 pub mod Settling
 pub mod Sounds
 pub mod Standing

@@ -28,10 +28,7 @@ use Rattle.h2_stands.proofs.Sums.{length-entered, length-filtered}
 
 -- the part of a call that a head's lack decides
 pub lacks-same : (k l : Kept) → IsSame k l → (id : ℕ) → lacks_head id l ≡ lacks_head id k
-lacks-same k l s id = by
-  where
-    by : lacks_head id l ≡ lacks_head id k
-    by = rw (s.client, s.headless, s.numbers) refl
+lacks-same k l s id = rw (s.client, s.headless, s.numbers) refl
 
 -- A reset
 

@@ -37,18 +37,18 @@ comes-within n p l = record {
 same-comes : (s : State) → Comes 0 s s
 same-comes s = record { queued = omega arith; kept = omega arith; streams = omega arith }
 
-pub receiving-comes : (f : Frame) (s : State) → Comes 0 s (receiving f s)
+receiving-comes : (f : Frame) (s : State) → Comes 0 s (receiving f s)
 unfolding receiving
 receiving-comes (frame.Data id bytes last size) s = record { queued = omega arith; kept = omega arith; streams = length-moved _ s.streams }
 receiving-comes (frame.Window (suc id) n) s = record { queued = omega arith; kept = omega arith; streams = length-moved _ s.streams }
 receiving-comes (frame.Window zero n) s = record { queued = omega arith; kept = omega arith; streams = omega arith }
 receiving-comes f s = record { queued = omega arith; kept = omega arith; streams = omega arith }
 
-pub ending-comes : (w : Option Whole) (s : State) → Comes 0 s (ending w s)
+ending-comes : (w : Option Whole) (s : State) → Comes 0 s (ending w s)
 ending-comes None s = same-comes s
 ending-comes (Some w) s = record { queued = omega arith; kept = omega arith; streams = length-moved _ s.streams }
 
-pub resetting-comes : (id : ℕ) (s : State) → Comes 0 s (resetting id s)
+resetting-comes : (id : ℕ) (s : State) → Comes 0 s (resetting id s)
 unfolding resetting
 resetting-comes id s = record {
   queued = omega (arith, length-filtered (λ w. not (is_dropped id w)) s.waiting);
@@ -56,13 +56,13 @@ resetting-comes id s = record {
   streams = length-moved _ s.streams;
 }
 
-pub reported-comes : (e : Event) (s : State) → Comes 0 s (reported e s)
+reported-comes : (e : Event) (s : State) → Comes 0 s (reported e s)
 unfolding reported
 reported-comes (event.Head id fields last) s = record { queued = omega arith; kept = omega arith; streams = length-moved _ s.streams }
 reported-comes (event.Reset id code) s = resetting-comes id s
 reported-comes e s = same-comes s
 
-pub resetting-all-comes : (ids : List ℕ) (s : State) → Comes 0 s (resetting_all ids s)
+resetting-all-comes : (ids : List ℕ) (s : State) → Comes 0 s (resetting_all ids s)
 resetting-all-comes [] s = same-comes s
 resetting-all-comes (id ∷ ids) s = comes-then 0 0 (resetting-comes id s) (resetting-all-comes ids (resetting id s))
 
@@ -78,12 +78,12 @@ charged-comes f s = same-comes s
 queueing-comes : (f : Frame) (s : State) → Comes 1 s (queueing f s)
 queueing-comes f s = record { queued = omega (arith, length-entered f s.waiting); kept = omega arith; streams = omega arith }
 
-pub owing-comes : (headless : Bool) (f : Frame) (s : State) → Comes 1 s (owing_frame headless f s)
+owing-comes : (headless : Bool) (f : Frame) (s : State) → Comes 1 s (owing_frame headless f s)
 unfolding owing_frame
 owing-comes true f s = record { queued = omega arith; kept = omega (arith, length-append s.held (Owed f ∷ [])); streams = omega arith }
 owing-comes false f s = comes-then 0 1 (charged-comes f s) (queueing-comes f (charged f s))
 
-pub owing-all-comes : (headless : ℕ → Bool) (owed : List Frame) (s : State) → Comes (length owed) s (owing_frames headless owed s)
+owing-all-comes : (headless : ℕ → Bool) (owed : List Frame) (s : State) → Comes (length owed) s (owing_frames headless owed s)
 owing-all-comes headless [] s = same-comes s
 owing-all-comes headless (f ∷ owed) s =
     comes-within (length (f ∷ owed))

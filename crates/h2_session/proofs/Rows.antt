@@ -1,4 +1,4 @@
--- The first row of a table, and the streams above a number.
+-- The first row of a table.
 use Rattle.std.proofs.Common.{◌≡◌, ℕ, zero, suc, ◌+◌, ◌<◌, Bool, true, false, if◌then◌else◌, List, [], ◌∷◌, length, take, slice_index_or, Some, None, refl, subst, arith}
 use Rattle.h2_model.specs.Codes.{first_row}
 

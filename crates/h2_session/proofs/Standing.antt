@@ -1,5 +1,6 @@
 -- A session stands for one more call, by what the code leaves.
 use Rattle.std.proofs.Common.{◌≡◌, ℕ, ℤ, zero, suc, ◌+◌, ◌≤◌, ◌<◌, min, Bool, true, false, ◌||◌, List, [], ◌∷◌, length, take, Option, Some, None, refl, sym, ◌∙◌, ap, subst, if◌then◌else◌, is_some, arith, le_refl, length-take}
+use Rattle.std.proofs.Math.Bool.{or-true}
 use Rattle.ext_msgs.specs.declared.lists.Field.{Field}
 use Rattle.hpack_core.specs.Writing.{BlockWritten}
 use Rattle.h2_frames.specs.declared.frame.Frame.TheVariants as frame
@@ -11,11 +12,12 @@ use Rattle.h2_model.specs.Calls.{MayHead, Role, is_open_here, kept_streams, now,
 use Rattle.h2_model.specs.History.{Call, Open, Head, Send, Finish, Reset, Take, is_violated}
 use Rattle.h2_model.specs.Queue.{flow}
 use Rattle.h2_model.specs.Windows.{connection_window, stream_window}
-use Rattle.h2_model.specs.State.{State, seen}
+use Rattle.h2_model.specs.State.{State}
 use Rattle.h2_model.specs.Moves.{handing, opening, sending}
 use Rattle.h2_calls.specs.Calling.{taking, heading}
 use Rattle.h2_session.specs.Keeping.{KeepsRooms, heading_as, leaves_a_stream}
 use Rattle.h2_session.proofs.Agreeing.{live-same, open-same, head-same, kept-same}
+use Rattle.h2_session.proofs.Seen.{seen-known, seen-limit}
 use Rattle.h2_stands.specs.Kept.{Kept, IsSame, IsBeside, lacks_head}
 use Rattle.h2_stands.specs.Rooms.{HasSpare, KeepsCapacity}
 use Rattle.h2_stands.specs.StandsFor.{StandsFor, Stands}
@@ -126,11 +128,7 @@ pub send-violated : (r : Role) (k : Kept) (h : List Call) (id n : ℕ) (bytes : 
     → is_open_here id (now r h) ≡ true → n ≤ length bytes → n ≡ sendable id (length bytes) (now r h)
     → is_some k.state.violation ≡ true → StandsFor r k (Send id (take n bytes) ∷ h)
 send-violated r k h id n bytes s o m e v =
-    send-nothing r k h id n bytes s o m e (ap (λ c. is_empty (take n bytes) || c) v ∙ either (is_empty (take n bytes)))
-  where
-    either : (c : Bool) → (c || true) ≡ true
-    either true = refl
-    either false = refl
+    send-nothing r k h id n bytes s o m e (ap (λ c. is_empty (take n bytes) || c) v ∙ or-true (is_empty (take n bytes)))
 
 pub some-taken : (n : ℕ) (bytes : List ℕ) → (n ≡ 0 → ⊥) → n ≤ length bytes → is_empty (take n bytes) ≡ false
 some-taken zero bytes z m = absurd (z refl)
@@ -165,14 +163,6 @@ open-stands r k l h s q t b e n st c =
     b.client b.streams (open-held k l (now r h) s.holds q.0 q.1 b e n st c)
 
 -- A block is handed over
-
-seen-known : (a : Account) → (seen a).known ≡ known_limit a.log
-unfolding seen
-seen-known a = refl
-
-seen-limit : (a : Account) → (seen a).limit ≡ table_limit a.log
-unfolding seen
-seen-limit a = refl
 
 pub head-violated : (r : Role) (k : Kept) (h : List Call) (id : ℕ) (fields : List Field) (block : List ℕ) (last : Bool)
     → StandsFor r k h → MayHead id (now r h) → is_some k.state.violation ≡ true → StandsFor r k (Head id fields block last ∷ h)

@@ -7,7 +7,7 @@ use Rattle.h2_model.specs.Log.{Owed, total}
 use Rattle.h2_model.specs.Queue.{Waiting, behind, whole_within}
 use Rattle.h2_model.specs.Account.{Account}
 use Rattle.h2_model.specs.Streams.{is_live}
-use Rattle.h2_model.specs.State.{State, seen, live, stream_of_log}
+use Rattle.h2_model.specs.State.{State, live, stream_of_log}
 use Rattle.h2_model.specs.Moves.{giving, giving_all}
 use Rattle.h2_model.specs.Valid.{Valid, update_of, updates_in}
 use Rattle.h2_model.specs.Windows.{increment_owed, increment_given, data_received, receiving_window}
@@ -15,6 +15,7 @@ use Rattle.h2_calls.specs.Calling.{taking}
 use Rattle.h2_calls.proofs.Lists.{same-number}
 use Rattle.h2_session.specs.Keeping.{CanGive, CanGiveWhole, update_in}
 use Rattle.h2_session.proofs.Agreeing.{found-is}
+use Rattle.h2_session.proofs.Seen.{seen-receive, seen-waiting}
 use Rattle.h2_stands.specs.Kept.{Kept}
 use Rattle.h2_stands.specs.StandsFor.{Holds}
 
@@ -44,14 +45,6 @@ live-kept id a t e = by (is_live id a.log) e
     by : (c : Bool) → (if c then Some (stream_of_log id a) else None) ≡ Some t → (c ≡ true) × (t.receive ≡ receiving_window id a.log)
     by true q = let same : stream_of_log id a ≡ t = cc in (refl, ap (λ s. s.receive) (sym same))
     by false q = absurd cc
-
-seen-receive : (a : Account) → (seen a).receive ≡ receiving_window 0 a.log
-unfolding seen
-seen-receive a = refl
-
-seen-waiting : (a : Account) → (seen a).waiting ≡ a.waiting
-unfolding seen
-seen-waiting a = refl
 
 can-give : (k : Kept) (a : Account) → Holds k a → (m id n : ℕ) → whole_within m k.state.waiting ≡ frame.Window id n ∷ []
     → CanGive id n k.state

@@ -4,7 +4,10 @@ ghost use Rattle.std.specs.Prelude.{◌≡◌, ◌<◌, ◌^◌, ◌&&◌, [], N
 ghost use Rattle.h2_arrivals.specs.Steps.{opening_by, opening_for};
 ghost use Rattle.h2_calls.specs.Calling.{failing};
 ghost use Rattle.h2_frames.specs.declared.frame.Frame.TheVariants as frame;
+ghost use Rattle.h2_model.specs.Account.{Account};
 ghost use Rattle.h2_model.specs.Codes.{refused_stream};
+ghost use Rattle.h2_model.specs.History.{violated};
+ghost use Rattle.h2_model.specs.Log.{violation};
 ghost use Rattle.h2_model.specs.Moves.{adjusted, opening, owing_frame, reported, with_head};
 ghost use Rattle.h2_session.specs.Accepting.{IsAccepted, IsReady, Settles};
 ghost use Rattle.h2_session.specs.Arrivals.{CanOpen, Fails, IsAbove, last_of_peer, numbers_with};
@@ -12,14 +15,11 @@ ghost use Rattle.h2_session.specs.Feeding.{KeepsRole};
 ghost use Rattle.h2_session.specs.Keeping.{KeepsRoom};
 ghost use Rattle.h2_session.specs.Refused.{refused};
 ghost use Rattle.h2_session.specs.Steps.{ending, resetting_all};
+ghost use Rattle.h2_stands.specs.Arriving.{Breaks, Brings, IfCode};
 ghost use Rattle.h2_stands.specs.Kept.{IsBeside, IsSame};
 ghost use Rattle.h2_stands.specs.Rooms.{HasSpare, KeepsCapacity};
-ghost use Rattle.h2_streams.specs.Opened.{has, may_have, with_number};
-ghost use Rattle.h2_model.specs.Account.{Account};
-ghost use Rattle.h2_model.specs.History.{violated};
-ghost use Rattle.h2_model.specs.Log.{violation};
-ghost use Rattle.h2_stands.specs.Arriving.{Breaks, Brings, IfCode};
 ghost use Rattle.h2_stands.specs.StandsFor.{Holds};
+ghost use Rattle.h2_streams.specs.Opened.{has, may_have, with_number};
 
 use crate::judging::{Whole, event_of, is_on_live};
 use crate::session::Session;
@@ -34,6 +34,9 @@ use std::collections::VecDeque;
 
 /// How many streams a peer may have open: SETTINGS_MAX_CONCURRENT_STREAMS of a server.
 const MOST_STREAMS: usize = 256;
+
+/// How many frames one that came makes owed at most: DATA two window updates and a reset.
+const MOST_OWED: usize = 3;
 
 impl Session {
     /// A frame came: what it brought, or the code of the connection error that it is.
@@ -57,13 +60,13 @@ impl Session {
         ensures role { KeepsRole self.old self.new }
     {
         self.open_for(&frame)?;
-        self.make_room(4)?;
+        self.make_room(MOST_OWED)?;
         self.settle(frame, whole)
     }
 
     // The frame counts, what it brings is told, and what it makes due is owed.
     fn settle(&mut self, frame: Frame, whole: Option<Whole>) -> Result<Event, AllocError>
-        requires { HasSpare 4 self.old }
+        requires { HasSpare 3 self.old }
         ensures settled { (b : Account) → IsReady self.old frame whole b → IfOk result (λ event. Settles self.old self.new frame whole event b) }
         ensures same { IsSame self.old self.new }
         ensures capacity { KeepsCapacity self.old self.new }
@@ -83,16 +86,9 @@ impl Session {
 
     /// A connection error: DATA that waits is dropped, and GOAWAY goes last.
     pub(crate) fn fail(&mut self, code: u32) -> SessionFault
+        ensures ended { IfCode (λ told. (told ≡ code) × Fails code self.old self.new) result }
         ensures fails { (a : Account) → Holds self.old a → violation a.log ≡ None →
             IfCode (λ told. (told ≡ code) × Holds self.new (violated code a)) result }
-        ensures role { KeepsRole self.old self.new }
-    {
-        self.end_with(code)
-    }
-
-    // The session ends, whatever it holds.
-    pub(crate) fn end_with(&mut self, code: u32) -> SessionFault
-        ensures ended { IfCode (λ told. (told ≡ code) × Fails code self.old self.new) result }
         ensures role { KeepsRole self.old self.new }
     {
         let Ok(()) = self.make_room(1) else {
@@ -158,7 +154,7 @@ impl Session {
         ensures headless { self.new.headless ≡ self.old.headless }
         ensures capacity { KeepsCapacity self.old self.new }
     {
-        // A frame's number has 31 bits.
+        // This never comes: the number of a frame has 31 bits.
         if id >= 1 << 31 {
             return Err(AllocError);
         }

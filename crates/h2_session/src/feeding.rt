@@ -4,10 +4,10 @@ ghost use Rattle.std.specs.Prelude.{◌≡◌, ◌≤◌, ◌<◌, ◌+◌, ◌^
 ghost use Rattle.h2_model.specs.Account.{Account};
 ghost use Rattle.h2_model.specs.Calls.{IsFault, IsFed, Role, now, used_bytes};
 ghost use Rattle.h2_model.specs.History.{Call, Feed};
+ghost use Rattle.h2_model.specs.declared.answers.Event.TheVariants as event;
+ghost use Rattle.h2_session.specs.Feeding.{Greets, KeepsRole, Refuses, Runs, Told};
 ghost use Rattle.h2_stands.specs.Arriving.{IfCode};
 ghost use Rattle.h2_stands.specs.StandsFor.{Holds, StandsFor};
-ghost use Rattle.h2_model.specs.declared.answers.Event.TheVariants as event;
-ghost use Rattle.h2_session.specs.Feeding.{Told, Refuses, Greets, KeepsRole, Runs};
 
 use crate::session::Session;
 use h2_frames::codes::{PROTOCOL_ERROR, REFUSED_STREAM};
@@ -15,7 +15,7 @@ use h2_frames::{FrameFault, Step};
 use h2_model::{Event, Fed, SessionFault};
 
 /// What a client sends first: RFC 9113 section 3.4.
-const PREFACE: [u8; 24] = *b"PRI * HTTP/2.0\r\n\r\nSM\r\n\r\n";
+pub(crate) const PREFACE: [u8; 24] = *b"PRI * HTTP/2.0\r\n\r\nSM\r\n\r\n";
 
 impl Session {
     /// Takes bytes up to the first that brings something, and says what that is. The first connection error is answered

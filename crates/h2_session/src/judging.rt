@@ -167,7 +167,7 @@ impl Session {
         ensures role { KeepsRole self.old self.new }
     {
         if block.len() > LONGEST {
-            return Err(self.end_with(ENHANCE_YOUR_CALM));
+            return Err(self.fail(ENHANCE_YOUR_CALM));
         }
         match self.decoder.block(block) {
             Ok(fields) => Ok(fields),
@@ -183,7 +183,7 @@ impl Session {
         let Some(code) = code_of(fault) else {
             return SessionFault::Memory;
         };
-        self.end_with(code)
+        self.fail(code)
     }
 
     /// The stream error that a frame is: the stream and the code.

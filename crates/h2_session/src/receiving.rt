@@ -21,6 +21,15 @@ use h2_streams::{Change, StreamTable};
 use hpack_core::Encoder;
 use std::alloc::AllocError;
 
+/// SETTINGS_HEADER_TABLE_SIZE: RFC 9113 section 6.5.2.
+const HEADER_TABLE_SIZE: u16 = 1;
+
+/// SETTINGS_MAX_CONCURRENT_STREAMS.
+const MAX_CONCURRENT_STREAMS: u16 = 3;
+
+/// SETTINGS_INITIAL_WINDOW_SIZE.
+const INITIAL_WINDOW_SIZE: u16 = 4;
+
 /// The widest sending window: RFC 9113 section 6.9.1.
 const WIDEST: i64 = (1 << 31) - 1;
 
@@ -54,7 +63,7 @@ fn limit_table(encoder: &mut Encoder, list: &[Setting])
     ensures table { encoder.new.table ≡ encoder.old.table }
 {
     for setting in list {
-        if setting.identifier == 1 {
+        if setting.identifier == HEADER_TABLE_SIZE {
             encoder.set_limit(setting.value);
         }
     }
@@ -192,8 +201,8 @@ impl Session {
         ensures capacity { KeepsCapacity self.old self.new }
         ensures rooms { KeepsRoom self.old self.new }
     {
-        self.initial = setting_in(list, 4, self.initial);
-        self.most = setting_in(list, 3, self.most);
+        self.initial = setting_in(list, INITIAL_WINDOW_SIZE, self.initial);
+        self.most = setting_in(list, MAX_CONCURRENT_STREAMS, self.most);
         limit_table(&mut self.encoder, list);
     }
 

@@ -20,6 +20,7 @@ ghost use Rattle.h2_stands.specs.Kept.{IsBeside, IsSame, lacks_head};
 ghost use Rattle.h2_stands.specs.Rooms.{HasSpare, KeepsCapacity};
 ghost use Rattle.h2_stands.specs.StandsFor.{Stands, StandsFor};
 
+use crate::feeding::PREFACE;
 use crate::judging::is_live;
 use ext_msgs::FieldList;
 use h2_frames::{Frame, FrameReader};
@@ -35,6 +36,8 @@ use std::collections::VecDeque;
 use std::marker::Model;
 
 /// One end of a connection. It stands for the history of its calls.
+///
+/// After a connection error `head`, `send`, `finish` and `reset` do nothing, and `take` gives what is left, GOAWAY last.
 #[derive(Debug, Drop)]
 pub struct Session {
     pub(crate) alloc: Global,
@@ -118,7 +121,13 @@ fn update_in(whole: &Option<Frame>) -> Option<(u32, u32)>
     }
 }
 
-// The greatest number of a stream: RFC 9113 section 5.1.1.
+/// How wide windows are at first: RFC 9113 section 6.9.2.
+const FIRST_WINDOW: u32 = 65_535;
+
+/// How many bytes one frame of DATA has at most: no peer may want fewer, RFC 9113 section 4.2.
+const LONGEST_DATA: usize = 16_384;
+
+/// The greatest number of a stream: RFC 9113 section 5.1.1.
 const LAST: u32 = (1 << 31) - 1;
 
 impl Session {
@@ -134,20 +143,20 @@ impl Session {
             alloc,
             client,
             kept,
-            greeted: if client { 24 } else { 0 },
+            greeted: if client { PREFACE.len() } else { 0 },
             reader,
             first: true,
             block: None,
             decoder,
             encoder,
-            initial: 65_535,
+            initial: FIRST_WINDOW,
             most: u32::MAX,
             goaway: false,
             violation: None,
             numbers: Numbers::new(alloc),
             headless: 1,
             streams,
-            receive: 65_535,
+            receive: FIRST_WINDOW,
             unreturned: 0,
             sender,
             unreported: VecDeque::new(alloc),
@@ -296,7 +305,7 @@ impl Session {
         if window <= 0 {
             return 0;
         }
-        len.min(16_384).min(window as usize) as u32
+        len.min(LONGEST_DATA).min(window as usize) as u32
     }
 
     // DATA is handed over: it enters the queue, or is held while its stream's head is awaited.
@@ -391,12 +400,12 @@ impl Session {
         ensures capacity { KeepsCapacity self.old self.new }
     {
         if let Some((id, n)) = update_in(whole) {
-            self.widen(id, n);
+            self.widen_receiving(id, n);
         }
     }
 
-    // A window update went out.
-    fn widen(&mut self, id: u32, n: u32)
+    // A window update went out: so much more may come.
+    fn widen_receiving(&mut self, id: u32, n: u32)
         ensures state { CanGive id n self.old.state → self.new.state ≡ giving (frame.Window id n) self.old.state }
         ensures same { IsSame self.old self.new }
         ensures capacity { KeepsCapacity self.old self.new }
@@ -450,7 +459,8 @@ impl Session {
         }
     }
 
-    /// The length of the frames other than DATA that wait, counted to 2^64 - 1.
+    /// The length of the frames other than DATA that wait, counted to 2^64 - 1. A peer makes it greater by each PING and
+    /// SETTINGS, so its owner feeds no more while it is great.
     pub fn control(&self) -> u64
         ensures { (r : Role) (h : List Call) → StandsFor r self.now h → result ≡ min (control (now r h)) (2 ^ 64 - 1) }
     {

@@ -1,6 +1,7 @@
 -- What is owed is charged, kind by kind.
 use Rattle.std.proofs.Common.{sym, ◌∙◌, le_refl}
-use Rattle.h2_session.proofs.Charges.{charged-update, charged-reset, charged-other, keeps-all}
+use Rattle.h2_session.proofs.Charges.{charged-update, charged-reset, charged-other}
+use Rattle.h2_session.proofs.Standing.{capacity-itself}
 use Rattle.h2_session.proofs.session.Session.charge.Goals as goal
 
 pub returns-in-Window-clause-state : goal.returns-in-Window-clause-state
@@ -15,7 +16,7 @@ pub returns-in_default : goal.returns-in_default
 returns-in_default c = record {
   state = charged-other c.args.frame.now c.args.self.now.state c.in_default.not-Reset c.in_default.not-Window;
   same = search;
-  capacity = keeps-all c.args.self.now;
+  capacity = capacity-itself c.args.self.now;
   room = le_refl c.args.self.now.room;
   held = le_refl c.args.self.now.held_room;
 }

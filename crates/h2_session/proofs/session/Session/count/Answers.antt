@@ -1,14 +1,15 @@
 -- How a frame counts, kind by kind.
 use Rattle.std.proofs.Common.{sym}
-use Rattle.h2_session.proofs.Counting.{on-ok, counts-headers, counts-continuation, counts-data, counts-settings, counts-goaway, counts-other}
+use Rattle.std.proofs.lemmas.Result.{on_ok_weaker}
+use Rattle.h2_session.proofs.Counting.{counts-headers, counts-continuation, counts-data, counts-settings, counts-goaway, counts-other}
 use Rattle.h2_session.proofs.session.Session.count.Goals as goal
 
 pub returns-in-Headers-clause-state : goal.returns-in-Headers-clause-state
-returns-in-Headers-clause-state c = λ u v. on-ok c.begin_block.result
+returns-in-Headers-clause-state c = λ u v. on_ok_weaker c.begin_block.result
     (counts-headers c.args.frame.now _ _ _ _ _ c.args.self.now.state c.begin_block.new.self.state c.in-Headers.is c.bytes.ensures.list c.requires) c.begin_block.ensures.state
 
 pub returns-in-Continuation-clause-state : goal.returns-in-Continuation-clause-state
-returns-in-Continuation-clause-state c = λ u v. on-ok c.continue_block.result
+returns-in-Continuation-clause-state c = λ u v. on_ok_weaker c.continue_block.result
     (counts-continuation c.args.frame.now _ _ _ _ c.args.self.now.state c.continue_block.new.self.state c.in-Continuation.is c.bytes-in-Continuation.ensures.list c.requires) c.continue_block.ensures.state
 
 pub returns-in-Data-clause-state : goal.returns-in-Data-clause-state

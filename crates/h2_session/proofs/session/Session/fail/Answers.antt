@@ -1,10 +1,15 @@
--- A connection error, as the account says it.
-use Rattle.h2_session.proofs.Endings.{if-code, fails-held}
+-- GOAWAY goes out, where there is room.
+use Rattle.std.proofs.Common.{refl}
+use Rattle.h2_session.proofs.Endings.{fails, fails-held}
 use Rattle.h2_session.proofs.session.Session.fail.Goals as goal
 
-pub returns : goal.returns
-returns c = record {
-  fails = λ a h n. if-code (λ told p. (p.0, fails-held c.args.self.now c.end_with.new.self a c.args.code h n p.1))
-      c.end_with.result c.end_with.ensures.ended;
-  role = c.end_with.ensures.role;
-}
+pub returns-clause-ended : goal.returns-clause-ended
+returns-clause-ended c = (
+  refl,
+  fails c.args.self.now c.make_room.new.self c.go_away.new.self c.args.code c.make_room.ensures.state
+      c.make_room.ensures.same c.make_room.ensures.rooms c.in-Ok.ensures.room c.go_away.ensures.state c.go_away.ensures.same c.go_away.ensures.capacity,
+)
+
+pub returns-clause-fails : goal.returns-clause-fails
+returns-clause-fails c a h n =
+    (refl, fails-held c.args.self.now c.go_away.new.self a c.args.code h n (returns-clause-ended c).1)

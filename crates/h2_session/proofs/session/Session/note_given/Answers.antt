@@ -8,7 +8,7 @@ pub returns-in-Some-clause-state : goal.returns-in-Some-clause-state
 returns-in-Some-clause-state c = λ h.
     let is : update_in c.args.whole.now ≡ Some (c.in-Some.id, c.in-Some.n) = sym c.update_in.ensures ∙ c.in-Some.is in
     let both = update-is c.in-Some.id c.in-Some.n c.args.self.now.state c.args.whole.now is h in
-    c.widen.ensures.state both.0 ∙ sym both.1
+    c.widen_receiving.ensures.state both.0 ∙ sym both.1
 
 pub returns-in_default-clause-state : goal.returns-in_default-clause-state
 returns-in_default-clause-state c = λ h. sym (no-update c.args.self.now.state c.args.whole.now (sym c.update_in.ensures ∙ c.in_default.is))
