@@ -35,7 +35,7 @@ fn open(client: &mut Session) -> Result<u32>
 }
 
 // A client's end that opened streams 1 and 3, and that stands for some history.
-fn opening(alloc: Global) -> Result<Session>
+pub(crate) fn opening(alloc: Global) -> Result<Session>
     ensures { IfOk result (λ s. Stands s (λ r h. Unit {0})) }
 {
     let mut client = Session::client(alloc, 2)?;
@@ -55,7 +55,7 @@ pub fn asking(alloc: Global) -> Result<Session>
 }
 
 // The head of a request is handed over.
-fn ask(alloc: Global, client: &mut Session, id: u32) -> Result<()>
+pub(crate) fn ask(alloc: Global, client: &mut Session, id: u32) -> Result<()>
     requires { Stands client.old (λ r h. Unit {0}) }
     ensures { OnOk result (Stands client.new (λ r h. Unit {0})) }
 {

@@ -12,6 +12,8 @@
 
 mod client;
 mod play;
+#[cfg(test)]
+mod tests;
 
 use anyhow::Result;
 use h2_session::Session;
