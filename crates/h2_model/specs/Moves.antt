@@ -1,4 +1,4 @@
--- How what a session keeps changes, entry by entry of the log. The laws of `h2_arrivals` and `h2_calls` say that these
+-- How what a session keeps changes, entry by entry of the log. The laws of `h2_laws_log` say that these
 -- are the changes of the sums.
 use Rattle.std.specs.Prelude.{ℕ, zero, suc, ◌+◌, ◌-◌, Bool, true, false, not, ◌&&◌, ◌||◌, List, [], ◌∷◌, ◌++◌, length, Option, Some, None, if◌then◌else◌, ◌==◌, filter, filter_map, pos, ◌+ℤ◌, ◌-ℤ◌}
 use Rattle.ext_msgs.specs.declared.lists.Field.{Field}

@@ -1,14 +1,14 @@
 -- Frames that are held for a stream enter the queue one by one.
 use Rattle.std.proofs.Common.{arith, ◌≡◌, ◌≤◌, ◌+◌, ◌^◌, ℕ, true, false, not, List, [], ◌∷◌, ◌++◌, length, refl, sym, ap, ◌∙◌, filter}
 use Rattle.std.proofs.lemmas.List.{append_assoc}
-use Rattle.h2_calls.proofs.Queues.{queued-entered, held-append}
-use Rattle.h2_calls.specs.Calling.{all_entered}
+use Rattle.h2_laws_log.proofs.Queues.{queued-entered, held-append}
+use Rattle.h2_laws_log.specs.Calling.{all_entered}
 use Rattle.h2_frames.specs.declared.frame.Frame.{Frame}
 use Rattle.h2_model.specs.Log.{Entry}
 use Rattle.h2_model.specs.History.{frame_in, is_of}
 use Rattle.h2_model.specs.Queue.{queued, data_in, entered}
 use Rattle.h2_model.specs.Windows.{held_data}
-use Rattle.h2_queue.specs.Queue.{Queue}
+use Rattle.h2_sender.specs.Queue.{Queue}
 
 -- of what was held before, `front` stays, and `rest` wasn't looked at
 pub record IsReleasing (id : ℕ) (before : List Entry) (start : Queue) (front rest : List Entry) (now : Queue) : Type 0 where

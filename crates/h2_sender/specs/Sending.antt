@@ -8,7 +8,7 @@ use Rattle.h2_model.specs.Queue.{Waiting, queued, is_data, bytes_of, control_byt
 use Rattle.h2_model.specs.Moves.{kept_waiting, kept_held}
 use Rattle.h2_model.specs.Calls.{is_window}
 use Rattle.h2_model.specs.History.{frame_in, is_of}
-use Rattle.h2_queue.specs.Outgoing.{IsSendable}
+use Rattle.h2_sender.specs.Outgoing.{IsSendable}
 use Rattle.h2_model.specs.Windows.{held_data}
 
 pub record Sending : Type 0 where

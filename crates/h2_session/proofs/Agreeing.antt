@@ -11,13 +11,13 @@ use Rattle.h2_model.specs.Calls.{MayHead, next_head, is_open_here, kept_streams,
 use Rattle.h2_model.specs.State.{seen, live, stream_of_log}
 use Rattle.h2_model.specs.Valid.{Descends}
 use Rattle.h2_model.proofs.Lives.{found, found-live}
-use Rattle.h2_calls.proofs.Lists.{both-left, both-right, same-number}
-use Rattle.h2_stands.specs.Kept.{Kept, lacks_head}
-use Rattle.h2_stands.specs.StandsFor.{Holds}
-use Rattle.h2_stands.proofs.Holding.{lacks-head}
-use Rattle.h2_stands.proofs.Heads.{first-headless}
-use Rattle.h2_stands.proofs.Lowest.{found-some}
-use Rattle.h2_stands.proofs.Answers.{waits-is}
+use Rattle.h2_laws_log.proofs.Lists.{both-left, both-right, same-number}
+use Rattle.h2_laws_kept.specs.Kept.{Kept, lacks_head}
+use Rattle.h2_laws_kept.specs.StandsFor.{Holds}
+use Rattle.h2_laws_kept.proofs.Holding.{lacks-head}
+use Rattle.h2_laws_kept.proofs.Heads.{first-headless}
+use Rattle.h2_laws_kept.proofs.Lowest.{found-some}
+use Rattle.h2_laws_kept.proofs.Answers.{waits-is}
 
 -- Live streams
 

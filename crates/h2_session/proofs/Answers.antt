@@ -9,14 +9,14 @@ use Rattle.h2_model.specs.Log.{is_empty, violation}
 use Rattle.h2_model.specs.Account.{Account}
 use Rattle.h2_model.specs.History.{Call, Feed, answered, called}
 use Rattle.h2_model.specs.Calls.{IsFault, IsFed, Role, event_or_nothing, now, used_bytes}
-use Rattle.h2_feeds.specs.Feeding.{EndsAt}
-use Rattle.h2_feeds.proofs.Steps.{starts, ends-stopped, answers, refuses, leaves}
-use Rattle.h2_feeds.proofs.Uses.{used-whole}
-use Rattle.h2_stands.specs.Kept.{Kept}
-use Rattle.h2_stands.specs.Arriving.{IfCode}
-use Rattle.h2_stands.specs.StandsFor.{Holds, StandsFor}
-use Rattle.h2_stands.proofs.Holding.{violation-kept}
-use Rattle.h2_stands.proofs.Histories.{one-more}
+use Rattle.h2_laws_log.specs.Feeding.{EndsAt}
+use Rattle.h2_laws_log.proofs.Steps.{starts, ends-stopped, answers, refuses, leaves}
+use Rattle.h2_laws_log.proofs.Uses.{used-whole}
+use Rattle.h2_laws_kept.specs.Kept.{Kept}
+use Rattle.h2_laws_kept.specs.Arriving.{IfCode}
+use Rattle.h2_laws_kept.specs.StandsFor.{Holds, StandsFor}
+use Rattle.h2_laws_kept.proofs.Holding.{violation-kept}
+use Rattle.h2_laws_kept.proofs.Histories.{one-more}
 use Rattle.h2_session.specs.Feeding.{KeepsRole, Runs, Refuses}
 use Rattle.h2_session.proofs.Endings.{if-code}
 use Rattle.h2_session.proofs.Seen.{seen-unreported}

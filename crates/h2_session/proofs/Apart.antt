@@ -9,7 +9,7 @@ use Rattle.h2_model.specs.declared.answers.Event.TheVariants as event
 use Rattle.h2_model.specs.Log.{stream_of}
 use Rattle.h2_model.specs.State.{State}
 use Rattle.h2_model.specs.Moves.{charged, opening, owing_frame, receiving, reported, resetting, telling_all}
-use Rattle.h2_arrivals.specs.Steps.{opening_by, opening_for, owing_frames}
+use Rattle.h2_laws_log.specs.Steps.{opening_by, opening_for, owing_frames}
 use Rattle.h2_session.specs.Refused.{refused}
 use Rattle.h2_session.specs.Steps.{resetting_all}
 

@@ -15,24 +15,24 @@ use Rattle.h2_model.specs.Log.{Received, violation}
 use Rattle.h2_model.specs.State.{State, seen}
 use Rattle.h2_model.specs.Streams.{is_opened}
 use Rattle.h2_model.specs.Violations.{is_long, violation_of}
-use Rattle.h2_arrivals.specs.Steps.{arriving, opening_for, with_frame}
-use Rattle.h2_arrivals.specs.Steps as arrivals
-use Rattle.h2_arrivals.proofs.Arrives.{Ready, arrives, no-violation, ready, sound-aside}
-use Rattle.h2_arrivals.proofs.Owes.{SameStreams, owing-stays, same-headless}
-use Rattle.h2_calls.proofs.Arrivals.{arrived-sound}
-use Rattle.h2_calls.proofs.Same.{zero-unopened}
-use Rattle.h2_calls.proofs.Unless.{answered-seen, answered-sound, answered-valid}
-use Rattle.h2_feeds.proofs.Keeps.{keeps-arrived}
-use Rattle.h2_rooms.proofs.Arrives.{arrived-counted}
-use Rattle.h2_rooms.proofs.Calls.{answered-counted}
-use Rattle.h2_rules.specs.Rows.{early_rows, late_rows}
-use Rattle.h2_rules.proofs.Table.{code_of, ended-block, no-block, or_row, violation-parts}
-use Rattle.h2_stands.specs.Arriving.{Breaks}
-use Rattle.h2_stands.specs.Kept.{Kept}
-use Rattle.h2_stands.specs.Rooms.{IsRoomy}
-use Rattle.h2_stands.specs.StandsFor.{Holds, IsSound, Lacks}
-use Rattle.h2_stands.proofs.Heading.{answered-heads, arrived-heads}
-use Rattle.h2_stands.proofs.Holding.{IsOutside, lacks-as, reads-kept}
+use Rattle.h2_laws_log.specs.Steps.{arriving, opening_for, with_frame}
+use Rattle.h2_laws_log.specs.Steps as arrivals
+use Rattle.h2_laws_log.proofs.Arrives.{Ready, arrives, no-violation, ready, sound-aside}
+use Rattle.h2_laws_log.proofs.Owes.{SameStreams, owing-stays, same-headless}
+use Rattle.h2_laws_log.proofs.Arrivals.{arrived-sound}
+use Rattle.h2_laws_log.proofs.Same.{zero-unopened}
+use Rattle.h2_laws_log.proofs.Unless.{answered-seen, answered-sound, answered-valid}
+use Rattle.h2_laws_log.proofs.Keeps.{keeps-arrived}
+use Rattle.h2_laws_log.proofs.RoomArrives.{arrived-counted}
+use Rattle.h2_laws_log.proofs.RoomCalls.{answered-counted}
+use Rattle.h2_streams.specs.Rows.{early_rows, late_rows}
+use Rattle.h2_streams.proofs.Rows.{code_of, ended-block, no-block, or_row, violation-parts}
+use Rattle.h2_laws_kept.specs.Arriving.{Breaks}
+use Rattle.h2_laws_kept.specs.Kept.{Kept}
+use Rattle.h2_laws_kept.specs.Rooms.{IsRoomy}
+use Rattle.h2_laws_kept.specs.StandsFor.{Holds, IsSound, Lacks}
+use Rattle.h2_laws_kept.proofs.Heading.{answered-heads, arrived-heads}
+use Rattle.h2_laws_kept.proofs.Holding.{IsOutside, lacks-as, reads-kept}
 use Rattle.h2_session.specs.Steps.{IsDecoded, IsOn, IsWhole, whole_with}
 use Rattle.h2_session.specs.declared.judging.Whole.{Whole}
 use Rattle.h2_session.proofs.Judged.{seen-initial, seen-streams, seen-unreturned}

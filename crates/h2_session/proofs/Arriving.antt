@@ -7,7 +7,7 @@ use Rattle.h2_model.specs.declared.answers.Event.TheVariants as event
 use Rattle.h2_model.specs.Blocks.{OpenBlock, table_or}
 use Rattle.h2_model.specs.State.{State}
 use Rattle.h2_model.specs.Moves.{adjusted, decoding, receiving, reported, telling_all, with_end}
-use Rattle.h2_arrivals.specs.Steps.{arriving, opening_for, owing_frames}
+use Rattle.h2_laws_log.specs.Steps.{arriving, opening_for, owing_frames}
 use Rattle.h2_session.specs.Refused.{refused}
 use Rattle.h2_session.specs.Steps.{IsDecoded, IsTold, ending, resetting_all}
 use Rattle.h2_session.specs.declared.judging.Whole.{Whole}

@@ -5,11 +5,11 @@ use Rattle.h2_model.specs.Log.{violation}
 use Rattle.h2_model.specs.Account.{Account}
 use Rattle.h2_model.specs.History.{answered}
 use Rattle.h2_model.specs.State.{State, seen}
-use Rattle.h2_arrivals.proofs.Arrives.{sound-aside}
-use Rattle.h2_arrivals.proofs.Reports.{seen-aside}
-use Rattle.h2_feeds.specs.Feeding.{KeepsPart}
-use Rattle.h2_stands.specs.Kept.{Kept}
-use Rattle.h2_stands.specs.StandsFor.{IsSound, Lacks, Reads, Holds}
+use Rattle.h2_laws_log.proofs.Arrives.{sound-aside}
+use Rattle.h2_laws_log.proofs.Reports.{seen-aside}
+use Rattle.h2_laws_log.specs.Feeding.{KeepsPart}
+use Rattle.h2_laws_kept.specs.Kept.{Kept}
+use Rattle.h2_laws_kept.specs.StandsFor.{IsSound, Lacks, Reads, Holds}
 
 is-sound-aside : (greeted : Bool) (rest : List ℕ) (us : List Event) (a : Account) → IsSound a
     → KeepsPart (record a { greeted = greeted; rest = rest; unreported = us })

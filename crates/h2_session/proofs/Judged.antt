@@ -17,7 +17,7 @@ use Rattle.h2_model.specs.Settings.{initial_window}
 use Rattle.h2_model.specs.Windows.{connection_window, receiving_window, unreturned}
 use Rattle.h2_model.specs.Violations.{is_first, is_settings, breaks_block, is_push, is_on_unopened, has_bad_setting, has_wide_setting, is_empty_update, widens_connection, exceeds_window, is_long}
 use Rattle.h2_model.proofs.Lives.{found, found-live}
-use Rattle.h2_rules.specs.Rows.{early_rows}
+use Rattle.h2_streams.specs.Rows.{early_rows}
 
 looked : (ss : List Stream) (a : Account) (id : ℕ) → ss ≡ streams a → found id ss ≡ live id a
 looked ss a id e = ap (found id) e ∙ found-live id a

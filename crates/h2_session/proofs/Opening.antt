@@ -12,14 +12,14 @@ use Rattle.h2_model.specs.Account.{Account, is_headless}
 use Rattle.h2_model.specs.History.{noted, hold, queue_with, owing, opened_by, with_opening}
 use Rattle.h2_model.specs.Violations.{may_open}
 use Rattle.h2_model.specs.State.{seen, streams}
-use Rattle.h2_arrivals.proofs.Arrives.{Accepted}
-use Rattle.h2_streams.specs.Known.{HasOpened}
-use Rattle.h2_streams.specs.Opened.{Opened as Numbers, gaps_before, has, is_within, may_have, with_number}
-use Rattle.h2_streams.specs.declared.numbers.Gap.{Gap}
-use Rattle.h2_stands.specs.Kept.{Kept}
-use Rattle.h2_stands.specs.StandsFor.{AreBelow, Lacks}
-use Rattle.h2_stands.proofs.Holding.{lacks-as}
-use Rattle.h2_stands.proofs.Opens.{among-below, new-above, new-last, top-all}
+use Rattle.h2_laws_log.proofs.Arrives.{Accepted}
+use Rattle.h2_model.specs.Known.{HasOpened}
+use Rattle.h2_model.specs.Numbers.{Numbers, gaps_before, has, is_within, may_have, with_number}
+use Rattle.h2_model.specs.declared.gap.Gap.{Gap}
+use Rattle.h2_laws_kept.specs.Kept.{Kept}
+use Rattle.h2_laws_kept.specs.StandsFor.{AreBelow, Lacks}
+use Rattle.h2_laws_kept.proofs.Holding.{lacks-as}
+use Rattle.h2_laws_kept.proofs.Opens.{among-below, new-above, new-last, top-all}
 use Rattle.h2_session.specs.Arrivals.{CanOpen, numbers_with}
 use Rattle.h2_session.proofs.Judged.{seen-streams}
 

@@ -15,16 +15,16 @@ use Rattle.h2_model.specs.Blocks.{table_after}
 use Rattle.h2_model.specs.State.{State}
 use Rattle.h2_model.specs.Moves.{adjusted, is_dropped, is_dropped_entry, kept_waiting, kept_held, dropped_bytes, resetting, handing, sending, giving, opening, new_stream, with_sent}
 use Rattle.h2_model.proofs.Lives.{found}
-use Rattle.h2_calls.specs.Calling.{all_entered, heading, starting}
-use Rattle.h2_calls.proofs.Lists.{both-left}
-use Rattle.h2_streams.specs.Opened.{has}
+use Rattle.h2_laws_log.specs.Calling.{all_entered, heading, starting}
+use Rattle.h2_laws_log.proofs.Lists.{both-left}
+use Rattle.h2_model.specs.Numbers.{has}
 use Rattle.h2_streams.specs.Changes.{changed, Allows, Counts}
 use Rattle.h2_streams.specs.declared.changes.Change.TheVariants.{BlockSent, DataSent, Reset, UpdateGiven}
 use Rattle.h2_session.specs.Refused.{refused}
 use Rattle.h2_session.specs.Keeping.{CanGive, heading_as}
-use Rattle.h2_stands.specs.Kept.{Kept, IsSame, lacks_head}
-use Rattle.h2_stands.specs.Rooms.{KeepsCapacity}
-use Rattle.h2_stands.proofs.Sums.{length-entered, length-filtered}
+use Rattle.h2_laws_kept.specs.Kept.{Kept, IsSame, lacks_head}
+use Rattle.h2_laws_kept.specs.Rooms.{KeepsCapacity}
+use Rattle.h2_laws_kept.proofs.Sums.{length-entered, length-filtered}
 
 -- the part of a call that a head's lack decides
 pub lacks-same : (k l : Kept) → IsSame k l → (id : ℕ) → lacks_head id l ≡ lacks_head id k

@@ -15,14 +15,14 @@ use Rattle.h2_model.specs.Log.{is_empty}
 use Rattle.h2_model.specs.Account.{Account}
 use Rattle.h2_model.specs.History.{Feed, preface, arrived, called, violated, is_violated}
 use Rattle.h2_model.specs.Calls.{event_or_nothing, used_bytes}
-use Rattle.h2_feeds.specs.Feeding.{EndsAt, EndsAtFault, IsRead, KeepsPart, ReadsFrames, ReadsPreface}
-use Rattle.h2_feeds.proofs.Fronts.{nothing-begun}
-use Rattle.h2_feeds.proofs.Keeps.{keeps-arrived}
-use Rattle.h2_feeds.proofs.Parts.{part-bytes, part-called}
-use Rattle.h2_feeds.proofs.Steps.{reads-frame, reads-preface, ends-preface, ends-stopped, ends-all, ends-more, ends-at-other, ends-fault, answers, refuses, leaves, fault-refuses}
-use Rattle.h2_stands.specs.Kept.{Kept}
-use Rattle.h2_stands.specs.Arriving.{Brings, Breaks}
-use Rattle.h2_stands.specs.StandsFor.{Reads, Holds}
+use Rattle.h2_laws_log.specs.Feeding.{EndsAt, EndsAtFault, IsRead, KeepsPart, ReadsFrames, ReadsPreface}
+use Rattle.h2_laws_log.proofs.Fronts.{nothing-begun}
+use Rattle.h2_laws_log.proofs.Keeps.{keeps-arrived}
+use Rattle.h2_laws_log.proofs.Parts.{part-bytes, part-called}
+use Rattle.h2_laws_log.proofs.Steps.{reads-frame, reads-preface, ends-preface, ends-stopped, ends-all, ends-more, ends-at-other, ends-fault, answers, refuses, leaves, fault-refuses}
+use Rattle.h2_laws_kept.specs.Kept.{Kept}
+use Rattle.h2_laws_kept.specs.Arriving.{Brings, Breaks}
+use Rattle.h2_laws_kept.specs.StandsFor.{Reads, Holds}
 use Rattle.h2_session.specs.Feeding.{Runs, Reaches, Greets, Told, Refuses}
 use Rattle.h2_session.proofs.Aside.{input-aside, answered-none}
 use Rattle.h2_session.proofs.Sounds.{breaks-quietly}

@@ -6,9 +6,9 @@ use Rattle.h2_model.specs.Log.{violation}
 use Rattle.h2_model.specs.Account.{Account}
 use Rattle.h2_model.specs.History.{Feed, called}
 use Rattle.h2_model.specs.Calls.{IsFault, IsFed, used_bytes}
-use Rattle.h2_feeds.specs.Feeding.{IsRead, KeepsPart}
-use Rattle.h2_stands.specs.Kept.{Kept}
-use Rattle.h2_stands.specs.StandsFor.{Holds}
+use Rattle.h2_laws_log.specs.Feeding.{IsRead, KeepsPart}
+use Rattle.h2_laws_kept.specs.Kept.{Kept}
+use Rattle.h2_laws_kept.specs.StandsFor.{Holds}
 
 -- the role and how many streams a client keeps are chosen for good
 pub record KeepsRole (k l : Kept) : Type 0 where

@@ -18,7 +18,7 @@ use Rattle.h2_model.specs.Moves.{adjusted, receiving, resetting, with_end}
 use Rattle.h2_model.proofs.Lives.{found}
 use Rattle.h2_streams.specs.Changes.{Allows}
 use Rattle.h2_streams.specs.declared.changes.Change.TheVariants.{IncrementCame}
-use Rattle.h2_stands.specs.Kept.{Kept, lacks_head}
+use Rattle.h2_laws_kept.specs.Kept.{Kept, lacks_head}
 use Rattle.h2_session.specs.Refused.{refused}
 use Rattle.h2_session.specs.declared.judging.Whole.{Whole}
 

@@ -6,8 +6,8 @@ ghost use Rattle.h2_model.specs.Calls.{IsFault, IsFed, Role, now, used_bytes};
 ghost use Rattle.h2_model.specs.History.{Call, Feed};
 ghost use Rattle.h2_model.specs.declared.answers.Event.TheVariants as event;
 ghost use Rattle.h2_session.specs.Feeding.{Greets, KeepsRole, Refuses, Runs, Told};
-ghost use Rattle.h2_stands.specs.Arriving.{IfCode};
-ghost use Rattle.h2_stands.specs.StandsFor.{Holds, StandsFor};
+ghost use Rattle.h2_laws_kept.specs.Arriving.{IfCode};
+ghost use Rattle.h2_laws_kept.specs.StandsFor.{Holds, StandsFor};
 
 use crate::session::Session;
 use h2_frames::codes::{PROTOCOL_ERROR, REFUSED_STREAM};

@@ -16,19 +16,17 @@ ghost use Rattle.h2_session.specs.Bytes.{begun_bytes, kept_bytes};
 ghost use Rattle.h2_session.specs.Keeping.{CanGive, CanGiveWhole, KeepsRoom, KeepsRooms, heading_as, leaves_a_stream, update_in};
 ghost use Rattle.h2_streams.specs.Changes.{Allows};
 ghost use Rattle.h2_streams.specs.declared.changes.Change.TheVariants.{DataSent};
-ghost use Rattle.h2_stands.specs.Kept.{IsBeside, IsSame, lacks_head};
-ghost use Rattle.h2_stands.specs.Rooms.{HasSpare, KeepsCapacity};
-ghost use Rattle.h2_stands.specs.StandsFor.{Stands, StandsFor};
+ghost use Rattle.h2_laws_kept.specs.Kept.{IsBeside, IsSame, lacks_head};
+ghost use Rattle.h2_laws_kept.specs.Rooms.{HasSpare, KeepsCapacity};
+ghost use Rattle.h2_laws_kept.specs.StandsFor.{Stands, StandsFor};
 
 use crate::feeding::PREFACE;
 use crate::judging::is_live;
 use ext_msgs::FieldList;
 use h2_frames::{Frame, FrameReader};
 use h2_model::NoStream;
-use h2_queue::Taken;
-use h2_rules::PartialBlock;
-use h2_sender::Sender;
-use h2_streams::{Change, Numbers, StreamTable};
+use h2_sender::{Sender, Taken};
+use h2_streams::{Change, Numbers, PartialBlock, StreamTable};
 use hpack_core::{Decoder, Encoder};
 use pb_wire::Blob;
 use std::alloc::{AllocError, Global};
@@ -74,7 +72,7 @@ pub struct Session {
 impl Model for Session {
     ghost use Rattle.std.specs.Prelude.{map};
     ghost use Rattle.h2_session.specs.Refused.{refused};
-    ghost use Rattle.h2_stands.specs.Kept.{Kept};
+    ghost use Rattle.h2_laws_kept.specs.Kept.{Kept};
 
     ghost Value = { Kept };
 

@@ -2,7 +2,7 @@
 use Rattle.std.proofs.Common.{arith, ◌≡◌, ◌≤◌, ◌+◌, ◌^◌, List, [], ◌∷◌, ◌++◌, not, sym, ap, ◌∙◌, ℤ, pos, ◌+ℤ◌, ◌≤ℤ◌}
 use Rattle.std.specs.List.{filter}
 use Rattle.std.proofs.lemmas.Int.{ints}
-use Rattle.h2_calls.proofs.Queues.{queued-entered}
+use Rattle.h2_laws_log.proofs.Queues.{queued-entered}
 use Rattle.h2_model.specs.Log.{Entry}
 use Rattle.h2_model.specs.Queue.{Waiting, is_free, entered, fresh, queued, data_in}
 use Rattle.h2_model.specs.Windows.{held_data}

@@ -1,7 +1,7 @@
 -- DATA takes its length of the window.
 use Rattle.std.proofs.Common.{arith, ◌≡◌, ◌≤◌, ◌<◌, ◌+◌, ◌^◌, ℕ, List, [], ◌∷◌, ◌++◌, sym, subst, ℤ, pos, ◌+ℤ◌, ◌≤ℤ◌}
 use Rattle.std.proofs.lemmas.Int.{ints}
-use Rattle.h2_calls.proofs.Queues.{held-append}
+use Rattle.h2_laws_log.proofs.Queues.{held-append}
 use Rattle.h2_model.specs.Log.{Entry}
 use Rattle.h2_model.specs.Queue.{Waiting, data_in}
 use Rattle.h2_model.specs.Windows.{held_data}

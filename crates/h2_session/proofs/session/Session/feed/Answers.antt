@@ -3,8 +3,8 @@ use Rattle.std.proofs.Common.{◌∷◌, refl, sym, subst}
 use Rattle.std.proofs.lemmas.Result.{IfOk-weaker, IfErr-weaker}
 use Rattle.h2_model.specs.Calls.{IsFault, IsFed, now, used_bytes}
 use Rattle.h2_model.specs.History.{Feed}
-use Rattle.h2_stands.specs.Arriving.{IfCode}
-use Rattle.h2_stands.specs.StandsFor.{StandsFor}
+use Rattle.h2_laws_kept.specs.Arriving.{IfCode}
+use Rattle.h2_laws_kept.specs.StandsFor.{StandsFor}
 use Rattle.h2_session.specs.Feeding.{Told, Refuses}
 use Rattle.h2_session.proofs.Answers.{refused-again, stays-refused, told-first, stays-told, begins, goes-on, fault-of, fault-stands, then-kept}
 use Rattle.h2_session.proofs.Reading.{handed-on}

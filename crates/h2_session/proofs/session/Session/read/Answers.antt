@@ -3,7 +3,7 @@ use Rattle.std.proofs.Common.{length-drop, drop, arith, refl, sym, ◌∙◌, ap
 use Rattle.h2_frames.specs.Reading.{Feeds}
 use Rattle.h2_frames.specs.declared.reader.Step.TheVariants.{More, Got}
 use Rattle.h2_frames.specs.declared.fault.FrameFault.TheVariants.{Code}
-use Rattle.h2_stands.specs.Arriving.{IfCode}
+use Rattle.h2_laws_kept.specs.Arriving.{IfCode}
 use Rattle.h2_session.specs.Feeding.{Greets, Refuses}
 use Rattle.h2_session.proofs.Endings.{if-code}
 use Rattle.h2_session.proofs.Reading.{all-read, feeds-as, part-waits, reader-same, frame-faulty, frame-held, frame-goes-on, frame-told, frame-breaks, handed-on}

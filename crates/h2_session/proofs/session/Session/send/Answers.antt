@@ -6,8 +6,8 @@ use Rattle.h2_model.proofs.Lives.{found}
 use Rattle.h2_session.proofs.Standing.{asked-open, roomier, send-nothing, send-stands, send-violated, some-taken}
 use Rattle.h2_streams.specs.Changes.{Allows}
 use Rattle.h2_streams.specs.declared.changes.Change.TheVariants.{DataSent}
-use Rattle.h2_stands.specs.Kept.{Kept, lacks_head}
-use Rattle.h2_stands.specs.StandsFor.{StandsFor}
+use Rattle.h2_laws_kept.specs.Kept.{Kept, lacks_head}
+use Rattle.h2_laws_kept.specs.StandsFor.{StandsFor}
 use Rattle.h2_session.proofs.session.Session.send.Goals as goal
 
 pub returns-then-n-eq0-clause-stands : goal.returns-then-n-eq0-clause-stands

@@ -1,6 +1,6 @@
 -- What is looked up is the account's stream, with its unreturned bytes.
 use Rattle.std.proofs.Common.{◌≡◌, ◌∙◌, sym, ap, subst}
-use Rattle.h2_stands.specs.Kept.{Kept}
+use Rattle.h2_laws_kept.specs.Kept.{Kept}
 use Rattle.h2_session.specs.Steps.{IsOn}
 use Rattle.h2_session.proofs.Judged.{its-stream, no-stream, owed-none, owed-shut, owed-open}
 use Rattle.h2_model.proofs.Lives.{found}

@@ -5,10 +5,10 @@ use Rattle.h2_model.specs.Calls.{now}
 use Rattle.h2_model.specs.State.{stream_of_log}
 use Rattle.h2_model.proofs.Lives.{found}
 use Rattle.h2_session.proofs.Standing.{asked-live}
-use Rattle.h2_stands.proofs.Answers.{stream-window-is}
-use Rattle.h2_stands.proofs.Handing.{stream-found}
+use Rattle.h2_laws_kept.proofs.Answers.{stream-window-is}
+use Rattle.h2_laws_kept.proofs.Handing.{stream-found}
 use Rattle.h2_streams.specs.Tables.{IsInRange}
-use Rattle.h2_stands.specs.Kept.{Kept}
+use Rattle.h2_laws_kept.specs.Kept.{Kept}
 use Rattle.h2_session.proofs.session.Session.window.Goals as goal
 
 pub returns-in-Some-clause-value : goal.returns-in-Some-clause-value
