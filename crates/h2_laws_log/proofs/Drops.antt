@@ -6,7 +6,7 @@ use Rattle.std.proofs.lemmas.List.Sums.{sum_by-cons}
 use Rattle.std.proofs.lemmas.List.Elements.{All-head, All-tail, All-cons, All-nil, All-map, All-weaker, All-filter}
 use Rattle.h2_frames.specs.declared.frame.Frame.{Frame}
 use Rattle.h2_frames.specs.declared.frame.Frame.TheVariants as frame
-use Rattle.h2_model.specs.Log.{Entry, Handed, stream_of}
+use Rattle.h2_model.specs.Log.{LogEntry, Handed, stream_of}
 use Rattle.h2_model.specs.Queue.{Waiting, is_free, is_reset_frame, has_bytes, data_in, queued, placed, all_placed, with_place, with_end_placed, is_free_of, stays_behind, entered, fresh}
 use Rattle.h2_model.specs.Windows.{held_data}
 use Rattle.h2_model.specs.History.{frame_in}
@@ -54,19 +54,19 @@ data-apart (frame.Data n bytes last size) id z s = rw (z, s) refl
 data-apart _ id z s = refl
 
 -- bytes of DATA in an entry that is held
-abbrev pub entry_data : ℕ → Entry → ℕ
+abbrev pub entry_data : ℕ → LogEntry → ℕ
 entry_data id (Handed f) = data_in id f
 entry_data id _ = 0
 
-pub held-step : (id : ℕ) (e : Entry) (held : List Entry) → held_data id (e ∷ held) ≡ entry_data id e + held_data id held
+pub held-step : (id : ℕ) (e : LogEntry) (held : List LogEntry) → held_data id (e ∷ held) ≡ entry_data id e + held_data id held
 held-step id (Handed f) held = refl
 held-step id _ held = omega arith
 
-pub held-sum : (id : ℕ) (held : List Entry) → held_data id held ≡ sum_by (entry_data id) held
+pub held-sum : (id : ℕ) (held : List LogEntry) → held_data id held ≡ sum_by (entry_data id) held
 held-sum id [] = refl
 held-sum id (e ∷ held) = held-step id e held ∙ ap (λ n. entry_data id e + n) (held-sum id held) ∙ sym (sum_by-cons (entry_data id) e held)
 
-entry-apart : (e : Entry) (id : ℕ) → (id == 0) ≡ false → (stream_of (frame_in e) == id) ≡ false → entry_data id e ≡ 0
+entry-apart : (e : LogEntry) (id : ℕ) → (id == 0) ≡ false → (stream_of (frame_in e) == id) ≡ false → entry_data id e ≡ 0
 entry-apart (Handed f) id z s = data-apart f id z s
 entry-apart _ id z s = refl
 
@@ -87,7 +87,7 @@ queued-kept id n queue z s = sum-kept (λ w. not (is_dropped n w)) (λ w. data_i
     last-part true false c e = absurd (true≢false (sym e))
     last-part false y c e = absurd (true≢false (sym e))
 
-pub held-kept : (id n : ℕ) (held : List Entry) → (id == 0) ≡ false → (n == id) ≡ false → held_data id (kept_held n held) ≡ held_data id held
+pub held-kept : (id n : ℕ) (held : List LogEntry) → (id == 0) ≡ false → (n == id) ≡ false → held_data id (kept_held n held) ≡ held_data id held
 held-kept id n held z s = held-sum id (kept_held n held) ∙ sum-kept (λ e. not (is_dropped_entry n e)) (entry_data id) held (λ e k.
     let d : (has_bytes (frame_in e) && (stream_of (frame_in e) == n)) ≡ true = not-kept (is_dropped_entry n e) k in
     entry-apart e id z (other (stream_of (frame_in e)) n id (and_parts (has_bytes (frame_in e)) (stream_of (frame_in e) == n) d).1 s))
@@ -96,7 +96,7 @@ held-kept id n held z s = held-sum id (kept_held n held) ∙ sum-kept (λ e. not
 pub queued-less : (id n : ℕ) (queue : List Waiting) → queued id (kept_waiting n queue) ≤ queued id queue
 queued-less id n queue = sum-filter (λ w. not (is_dropped n w)) (λ w. data_in id w.frame) queue
 
-pub held-less : (id n : ℕ) (held : List Entry) → held_data id (kept_held n held) ≤ held_data id held
+pub held-less : (id n : ℕ) (held : List LogEntry) → held_data id (kept_held n held) ≤ held_data id held
 held-less id n held = rw (held-sum id (kept_held n held), held-sum id held) (sum-filter (λ e. not (is_dropped_entry n e)) (entry_data id) held)
 
 pub updates-sum : (id : ℕ) (queue : List Waiting) → updates_in id queue ≡ sum_by (update_of id) queue

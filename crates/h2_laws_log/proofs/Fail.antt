@@ -11,7 +11,7 @@ use Rattle.h2_model.specs.Windows.{held_data, data_sent, increment_given, connec
 use Rattle.h2_model.specs.History.{frame_in, violated, last_of_peer}
 use Rattle.h2_model.specs.State.{seen, streams}
 use Rattle.h2_model.specs.Valid.{Valid, is_lost, is_lost_entry, is_of_opened, is_update_owed}
-use Rattle.h2_laws_log.specs.Sound.{Sound, has_left, may_be_held}
+use Rattle.h2_laws_log.specs.Sound.{CallsSound, has_left, may_be_held}
 use Rattle.h2_laws_log.specs.Calling.{failing}
 use Rattle.h2_laws_log.proofs.Queues.{queued-cons, queued-append, queued-split, held-append, updates-append, updates-kept}
 use Rattle.h2_laws_log.proofs.Same.{Same, same-untouched, none-moved, window-same}
@@ -22,7 +22,7 @@ dropped-data : (n : ℕ) (queue : List Waiting) → held_data n (map (λ w. Hand
 dropped-data n [] = refl
 dropped-data n (w ∷ queue) = omega (arith, queued-cons n w queue, dropped-data n queue)
 
-module _ (code : ℕ) (a : Account) (v : Valid a) (s : Sound a) (e : violation a.log ≡ None) where
+module _ (code : ℕ) (a : Account) (v : Valid a) (s : CallsSound a) (e : violation a.log ≡ None) where
   abbrev goaway : Frame
   goaway = frame.GoAway (last_of_peer a) code
 
@@ -95,7 +95,7 @@ module _ (code : ℕ) (a : Account) (v : Valid a) (s : Sound a) (e : violation a
           All-append P (filter (λ w. not (is_free w)) a.waiting) (fresh goaway ∷ [])
           (All-filter (λ w. not (is_free w)) P a.waiting h) (All-cons P (fresh goaway) [] p (All-nil P))
 
-pub fail-sound : (code : ℕ) (a : Account) → Sound a → Sound (violated code a)
+pub fail-sound : (code : ℕ) (a : Account) → CallsSound a → CallsSound (violated code a)
 fail-sound code a s =
     let goaway : Waiting = fresh (frame.GoAway (last_of_peer a) code) in
     record {

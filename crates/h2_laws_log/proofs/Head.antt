@@ -4,7 +4,7 @@ use Rattle.std.proofs.lemmas.List.Elements.{All-filter, All-weaker}
 use Rattle.ext_msgs.specs.declared.lists.Field.{Field}
 use Rattle.h2_frames.specs.declared.frame.Frame.{Frame}
 use Rattle.h2_frames.specs.declared.frame.Frame.TheVariants as frame
-use Rattle.h2_model.specs.Log.{Entry, Handed, stream_of, total}
+use Rattle.h2_model.specs.Log.{LogEntry, Handed, stream_of, total}
 use Rattle.h2_model.specs.Streams.{opened, is_opened, is_reset, is_ended_by_peer, is_ended_here, heads_got, has_head}
 use Rattle.h2_model.specs.Queue.{fresh, entered}
 use Rattle.h2_model.specs.Account.{Account, is_headless}
@@ -40,10 +40,10 @@ module _ (id : ℕ) (block : List ℕ) (last ends : Bool) (a : Account) (v : Val
   abbrev head : Frame
   head = frame.Headers id block last ends
 
-  abbrev out : List Entry
+  abbrev out : List LogEntry
   out = filter (is_of id) a.held
 
-  abbrev rest : List Entry
+  abbrev rest : List LogEntry
   rest = filter (λ e. not (is_of id e)) a.held
 
   -- before the resets that were held are noted again

@@ -8,7 +8,7 @@ use Rattle.std.proofs.lemmas.List.Sorted.{list_any-IsPermutation, IsPermutation-
 use Rattle.h2_frames.specs.declared.frame.Frame.{Frame}
 use Rattle.h2_frames.specs.declared.frame.Frame.TheVariants as frame
 use Rattle.h2_model.specs.Codes.{refused_stream}
-use Rattle.h2_model.specs.Log.{Entry, Log, Opened, stream_of, total}
+use Rattle.h2_model.specs.Log.{LogEntry, Log, Opened, stream_of, total}
 use Rattle.h2_model.specs.Streams.{opened, is_opened, greatest, is_live, live_streams, is_reset, is_ended_by_peer, is_ended_here}
 use Rattle.h2_model.specs.Blocks.{open_block}
 use Rattle.h2_model.specs.Account.{Account, is_headless}
@@ -88,7 +88,7 @@ opened-at k a = rw (eq-eqb k k refl) refl
 new-live : (k : ℕ) (a : Account) → Untouched k a → live k (with_entry (Opened k) a a.waiting a.held) ≡ Some (new_stream k)
 unfolding live stream_of_log
 new-live k a u =
-    let e : Entry = Opened k in
+    let e : LogEntry = Opened k in
     rw (
       eq-eqb k k refl,
       u.reset,
@@ -151,7 +151,7 @@ was-live-before k id log s l = subst (λ (x : Bool). ((x || is_opened id log) &&
 
 valid-entry : (k : ℕ) (a : Account) → Valid a → greatest (opened a.log) < k → Valid (with_entry (Opened k) a a.waiting a.held)
 valid-entry k a v l =
-    let e : Entry = Opened k in
+    let e : LogEntry = Opened k in
     let u : Untouched k a = v.untouched k (omega arith) (above-unopened k a l) in
     record {
       descends = (omega arith, greatest-all k (opened a.log) l, v.descends);

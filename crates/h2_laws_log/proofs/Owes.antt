@@ -7,7 +7,7 @@ use Rattle.std.proofs.lemmas.List.Elements.{All-push}
 use Rattle.h2_frames.specs.declared.frame.Frame.{Frame}
 use Rattle.h2_frames.specs.declared.frame.Frame.TheVariants as frame
 use Rattle.h2_model.specs.declared.stream.Stream.{Stream}
-use Rattle.h2_model.specs.Log.{Entry, Log, Owed, stream_of, total}
+use Rattle.h2_model.specs.Log.{LogEntry, Log, Owed, stream_of, total}
 use Rattle.h2_model.specs.Streams.{opened, is_reset, has_head}
 use Rattle.h2_model.specs.Blocks.{open_block}
 use Rattle.h2_model.specs.Queue.{Waiting, is_data, has_bytes, data_in, queued, entered, fresh, with_place}
@@ -43,7 +43,7 @@ no-longer f id queue d = let z : data_in id f ≡ 0 = no-data f id d in queued-e
 
 -- On a stream whose head wasn't handed over
 
-held-push : (id : ℕ) (f : Frame) (held : List Entry) → held_data id (held ++ Owed f ∷ []) ≡ held_data id held
+held-push : (id : ℕ) (f : Frame) (held : List LogEntry) → held_data id (held ++ Owed f ∷ []) ≡ held_data id held
 held-push id f held = held-sum id (held ++ Owed f ∷ []) ∙ sum_by_push (entry_data id) held (Owed f) ∙ by (sum_by (entry_data id) held) (held_data id held) (held-sum id held)
   where
     by : (n m : ℕ) → m ≡ n → n + 0 ≡ m
@@ -106,7 +106,7 @@ update-sent id k n a = rw (nothing-more (data_given id) (Owed (frame.Window k n)
 owes-connection : (n : ℕ) (a : Account) → Valid a → seen (owed_account (frame.Window zero n) a) ≡ queueing (frame.Window zero n) (charged (frame.Window zero n) (seen a))
 unfolding seen charged
 owes-connection n a v =
-    let e : Entry = Owed (frame.Window zero n) in
+    let e : LogEntry = Owed (frame.Window zero n) in
     let b : Account = owed_account (frame.Window zero n) a in
     with-parts (seen b)
     (window-stays a b (nothing-more (increment 0) e a.log refl) (update-sent 0 zero n a))
@@ -117,7 +117,7 @@ owes-connection n a v =
 stream-with-update : (k n : ℕ) (a : Account) → with_update n (stream_of_log k a) ≡ Some (stream_of_log k (owed_account (frame.Window k n) a))
 unfolding stream_of_log
 stream-with-update k n a =
-    let e : Entry = Owed (frame.Window k n) in
+    let e : LogEntry = Owed (frame.Window k n) in
     let b : Account = owed_account (frame.Window k n) a in
     let s : Stream = stream_of_log k a in
     ap (λ t. Some t) (sym (same-stream (record s { unreturned = s.unreturned - n }) (stream_of_log k b) refl refl refl refl
@@ -129,7 +129,7 @@ owes-update : (id n : ℕ) (a : Account) → Valid a → seen (owed_account (fra
 unfolding seen charged
 owes-update id n a v =
     let k : ℕ = suc id in
-    let e : Entry = Owed (frame.Window k n) in
+    let e : LogEntry = Owed (frame.Window k n) in
     let b : Account = owed_account (frame.Window k n) a in
     let z : (k == 0) ≡ false = ne_eqb k 0 (λ z. omega (arith, z)) in
     with-parts (seen b)

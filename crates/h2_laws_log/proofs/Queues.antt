@@ -6,7 +6,7 @@ use Rattle.std.proofs.lemmas.List.Sums.{sum_by-cons, sum_by-append}
 use Rattle.std.proofs.lemmas.List.Filters.{sum_by-filter_both}
 use Rattle.h2_frames.specs.declared.frame.Frame.{Frame}
 use Rattle.h2_frames.specs.declared.frame.Frame.TheVariants as frame
-use Rattle.h2_model.specs.Log.{Entry, Handed, stream_of}
+use Rattle.h2_model.specs.Log.{LogEntry, Handed, stream_of}
 use Rattle.h2_model.specs.Queue.{Waiting, fresh, placed, all_placed, entered, queued, data_in, is_free, is_free_of, stays_behind, with_place, with_end_placed, is_reset_frame}
 use Rattle.h2_model.specs.Windows.{held_data}
 use Rattle.h2_model.specs.Valid.{update_of, updates_in}
@@ -125,19 +125,19 @@ all-entered P fixes f queue p h = all-placed-one P (fresh f) _ p (by (is_reset_f
 
 -- What is held
 
-abbrev pub entry_data : ℕ → Entry → ℕ
+abbrev pub entry_data : ℕ → LogEntry → ℕ
 entry_data n (Handed f) = data_in n f
 entry_data n e = 0
 
-pub held-cons : (n : ℕ) (e : Entry) (held : List Entry) → held_data n (e ∷ held) ≡ entry_data n e + held_data n held
+pub held-cons : (n : ℕ) (e : LogEntry) (held : List LogEntry) → held_data n (e ∷ held) ≡ entry_data n e + held_data n held
 held-cons n (Handed f) held = refl
 held-cons n e held = omega arith
 
-pub held-append : (n : ℕ) (xs ys : List Entry) → held_data n (xs ++ ys) ≡ held_data n xs + held_data n ys
+pub held-append : (n : ℕ) (xs ys : List LogEntry) → held_data n (xs ++ ys) ≡ held_data n xs + held_data n ys
 held-append n [] ys = omega arith
 held-append n (e ∷ xs) ys = rw (held-cons n e (xs ++ ys), held-cons n e xs, held-append n xs ys) (omega arith)
 
-pub held-split : (n : ℕ) (p : Entry → Bool) (held : List Entry)
+pub held-split : (n : ℕ) (p : LogEntry → Bool) (held : List LogEntry)
     → held_data n (filter p held) + held_data n (filter (λ e. not (p e)) held) ≡ held_data n held
 held-split n p [] = refl
 held-split n p (e ∷ held) = by (p e) (held-split n p held)
@@ -166,7 +166,7 @@ kept-queue n p none (w ∷ queue) = by (p w) refl (kept-queue n p none queue)
     by true e ih = rw (queued-cons n w queue, none w e) (omega (arith, ih))
     by false e ih = rw (queued-cons n w queue, queued-cons n w (filter (λ v. not (p v)) queue), ih) refl
 
-pub kept-held-data : (n : ℕ) (p : Entry → Bool) → ((e : Entry) → p e ≡ true → entry_data n e ≡ 0) → (held : List Entry)
+pub kept-held-data : (n : ℕ) (p : LogEntry → Bool) → ((e : LogEntry) → p e ≡ true → entry_data n e ≡ 0) → (held : List LogEntry)
     → held_data n (filter (λ e. not (p e)) held) ≡ held_data n held
 kept-held-data n p none [] = refl
 kept-held-data n p none (w ∷ held) = by (p w) refl (kept-held-data n p none held)

@@ -19,7 +19,7 @@ use Rattle.h2_model.specs.Violations.{violation_of, may_open}
 use Rattle.h2_model.specs.Duties.{update, updates, is_open_from_peer, reset_for, owed_for, events_by, events_of}
 use Rattle.h2_model.specs.History.{noted, hold, queue_with, owing, owing_all, reporting, reporting_all, opened_by, with_opening, with_block, accepted, arrived, arrived_by}
 use Rattle.h2_model.specs.Valid.{Valid}
-use Rattle.h2_laws_log.specs.Steps.{Sound}
+use Rattle.h2_laws_log.specs.Steps.{FramesSound}
 use Rattle.h2_laws_log.proofs.Arrives.{Accepted, no-violation, begins}
 use Rattle.h2_laws_log.proofs.Lists.{same-number, not-zero, both-left, both-right}
 use Rattle.h2_laws_log.proofs.Hand.{live-not-reset}
@@ -243,7 +243,7 @@ opening-counted (frame.Headers id part last ends) a v e c =
     (λ u. may-open-opens a id (unopened-opens (is_opened id a.log) (may_open a id) x.on_opened u)) c
 opening-counted f a v e c = c
 
-pub arrived-counted : (f : Frame) (a : Account) → Sound a → Counted a → Counted (arrived f a)
+pub arrived-counted : (f : Frame) (a : Account) → FramesSound a → Counted a → Counted (arrived f a)
 unfolding arrived
 arrived-counted f a s c = by (violation_of a f) refl
   where

@@ -5,7 +5,7 @@ use Rattle.std.proofs.lemmas.List.Sums.{sum_by-cons, sum_by-append}
 use Rattle.std.proofs.lemmas.List.Filters.{sum_by-filter_both}
 use Rattle.h2_frames.specs.declared.frame.Frame.{Frame}
 use Rattle.h2_frames.specs.declared.frame.Frame.TheVariants as frame
-use Rattle.h2_model.specs.Log.{Entry, Handed, Owed}
+use Rattle.h2_model.specs.Log.{LogEntry, Handed, Owed}
 use Rattle.h2_model.specs.Streams.{is_opened, is_live, is_reset, is_ended_here}
 use Rattle.h2_model.specs.Queue.{fresh, is_free, whole_within}
 use Rattle.h2_model.specs.Account.{Account}
@@ -65,10 +65,10 @@ reset-counted id code a v l c =
 
 -- A block goes out, and what was held for it: together the same
 
-abbrev in_all : List Entry → (Frame → ℕ) → ℕ
+abbrev in_all : List LogEntry → (Frame → ℕ) → ℕ
 in_all held m = sum_by (λ e. m (frame_in e)) held
 
-released-grows : (held : List Entry) (a : Account) → Grows (in_all held) a (released held a)
+released-grows : (held : List LogEntry) (a : Account) → Grows (in_all held) a (released held a)
 released-grows [] a = stays a
 released-grows (Owed f ∷ held) a =
     let b : Account = queue_with f (noted (Owed f) a) in
@@ -139,5 +139,5 @@ pub aside-counted : (greeted : Bool) (rest : List ℕ) (a : Account) → Counted
 aside-counted greeted rest a c =
     record { ends = c.ends; resets = c.resets; connection_ends = c.connection_ends; connection_resets = c.connection_resets }
 
-pub noted-counted : (e : Entry) (a : Account) → Counted a → Counted (noted e a)
+pub noted-counted : (e : LogEntry) (a : Account) → Counted a → Counted (noted e a)
 noted-counted e a c = counted-stays a (noted e a) (noted-grows e a) c

@@ -8,9 +8,9 @@ use Rattle.h2_model.specs.declared.stream.Stream.{Stream}
 use Rattle.h2_model.specs.Streams.{opened, is_opened, is_live, is_ended_here}
 use Rattle.h2_model.specs.Account.{Account, is_headless}
 use Rattle.h2_model.specs.Calls.{MayHead, next_head, is_open_here, kept_streams, waits}
-use Rattle.h2_model.specs.State.{seen, live, stream_of_log}
+use Rattle.h2_model.specs.State.{seen, live, stream_of_log, found}
 use Rattle.h2_model.specs.Valid.{Descends}
-use Rattle.h2_model.proofs.Lives.{found, found-live}
+use Rattle.h2_model.proofs.Lives.{found-live}
 use Rattle.h2_laws_log.proofs.Lists.{both-left, both-right, same-number}
 use Rattle.h2_laws_kept.specs.Kept.{Kept, lacks_head}
 use Rattle.h2_laws_kept.specs.StandsFor.{Holds}
