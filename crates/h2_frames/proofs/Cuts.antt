@@ -36,7 +36,7 @@ first_own xs ys f n e l =
     let enough : 9 + (header_of (xs ++ ys)).size ≤ length xs = let q : n ≡ 9 + (header_of (xs ++ ys)).size = w.len in omega arith in
     sym (first_stays xs ys (λ u. told_something _ _ (sym (whole_by xs (header_of (xs ++ ys)) (header_front xs ys long) long w.right enough) ∙ u))) ∙ e
 
-nothing : first [] ≡ Unfinished
+pub nothing : first [] ≡ Unfinished
 nothing = first_short [] (omega arith)
 
 from_here : (old : List ℕ) (calls : List FeedCall) (rest : List ℕ) → first old ≡ Unfinished → FeedsAll old calls rest → Frames (old ++ used calls) (given calls) rest

@@ -220,7 +220,7 @@ heading-spares id block last ends t s = refl
 
 -- The queues
 
-length-all-entered : (held : List LogEntry) (queue : List Waiting) → length (all_entered held queue) ≡ length held + length queue
+pub length-all-entered : (held : List LogEntry) (queue : List Waiting) → length (all_entered held queue) ≡ length held + length queue
 length-all-entered [] queue = omega arith
 length-all-entered (e ∷ held) queue = omega (arith, length-all-entered held (entered (frame_in e) queue), length-entered (frame_in e) queue)
 

@@ -26,7 +26,7 @@ use Rattle.h2_laws_log.proofs.Brings.{events-opened, owed-may, owed-payable}
 
 -- What no violation says
 
-row : (x : Bool) (c : ℕ) (rest : Option ℕ) → (if x then Some c else rest) ≡ None → (x ≡ false) × (rest ≡ None)
+pub row : (x : Bool) (c : ℕ) (rest : Option ℕ) → (if x then Some c else rest) ≡ None → (x ≡ false) × (rest ≡ None)
 row true c rest e = absurd cc
 row false c rest e = (refl, e)
 
@@ -69,7 +69,7 @@ may-open-parts a id m = by a.client refl ((id % 2) == 1) (nat_lt (greatest (open
     by false e false x l m = absurd (true≢false (sym m))
     by true e o x l m = absurd (true≢false (sym m))
 
-one-of : (o m : Bool) → (not o && not m) ≡ false → o ≡ false → m ≡ true
+pub one-of : (o m : Bool) → (not o && not m) ≡ false → o ≡ false → m ≡ true
 one-of o true e z = refl
 one-of o false e z = absurd (true≢false (sym (rw z refl) ∙ e))
 
@@ -177,7 +177,7 @@ noted-kept f b c d n k = record {
 stays-noted : (f : Frame) (b c : Account) → Noted f b c → (id : ℕ) → is_headless c id ≡ is_headless b id
 stays-noted f b c n id = rw (n.client, n.opened, n.heads id) refl
 
-same-block : (a b : Account) (o : Option OpenBlock) → opened b.log ≡ opened a.log → is_block_opened a o ≡ true → is_block_opened b o ≡ true
+pub same-block : (a b : Account) (o : Option OpenBlock) → opened b.log ≡ opened a.log → is_block_opened a o ≡ true → is_block_opened b o ≡ true
 same-block a b None e h = refl
 same-block a b (Some x) e h = rw e h
 

@@ -16,8 +16,10 @@ use Rattle.h2_model.specs.History.{noted, frame_in}
 use Rattle.h2_model.specs.Moves.{is_dropped, is_dropped_entry}
 use Rattle.h2_model.specs.Valid.{Valid, Descends, is_lost, is_lost_entry, is_of_opened, is_update_owed, updates_in}
 use Rattle.h2_laws_log.specs.Steps.{reset_by, about, without_waiting, without_held}
-use Rattle.h2_laws_log.proofs.Drops.{eqb-turn, filter-whole, filter-where, queued-kept, held-kept, updates-less}
+use Rattle.h2_laws_log.proofs.Drops.{filter-whole, queued-kept, held-kept}
 use Rattle.h2_laws_log.proofs.Lives.{Same, SameSums, same-untouched}
+use Rattle.h2_laws_log.proofs.Queues.{updates-kept}
+use Rattle.h2_laws_log.proofs.Lists.{number-swapped, same-filter}
 
 -- What a reset drops
 
@@ -56,18 +58,18 @@ waiting-left : (o : Option ℕ) (e : LogEntry) (a : Account) → reset_by e ≡ 
 waiting-left None e a r v = filter-whole _ a.waiting (All-weaker (λ w. is_lost a.log w ≡ false) (λ w. not (is_lost (e ∷ a.log) w) ≡ true) (λ w k.
     loses-nothing (is_free w) (has_bytes w.frame) (resets (stream_of w.frame) e) (is_reset (stream_of w.frame) a.log)
     (resets-is e (stream_of w.frame) ∙ ap (λ o. hits o (stream_of w.frame)) r) k) a.waiting v.waiting_kept)
-waiting-left (Some n) e a r v = filter-where _ _ a.waiting (All-weaker (λ w. is_lost a.log w ≡ false) (λ w. not (is_lost (e ∷ a.log) w) ≡ not (is_dropped n w)) (λ w k.
+waiting-left (Some n) e a r v = same-filter _ _ a.waiting (All-weaker (λ w. is_lost a.log w ≡ false) (λ w. not (is_lost (e ∷ a.log) w) ≡ not (is_dropped n w)) (λ w k.
     loses-one (is_free w) (has_bytes w.frame) (resets (stream_of w.frame) e) (is_reset (stream_of w.frame) a.log) (stream_of w.frame == n)
-    (resets-is e (stream_of w.frame) ∙ ap (λ o. hits o (stream_of w.frame)) r ∙ eqb-turn n (stream_of w.frame)) k) a.waiting v.waiting_kept)
+    (resets-is e (stream_of w.frame) ∙ ap (λ o. hits o (stream_of w.frame)) r ∙ number-swapped n (stream_of w.frame)) k) a.waiting v.waiting_kept)
 
 held-left : (o : Option ℕ) (e : LogEntry) (a : Account) → reset_by e ≡ o → Valid a
     → filter (λ h. not (has_bytes (frame_in h) && is_reset (stream_of (frame_in h)) (e ∷ a.log))) a.held ≡ without_held o a.held
 held-left None e a r v = filter-whole _ a.held (All-weaker (λ h. is_lost_entry a.log h ≡ false) (λ h. not (is_lost_entry (e ∷ a.log) h) ≡ true) (λ h k.
     keeps-nothing-held (has_bytes (frame_in h)) (resets (stream_of (frame_in h)) e) (is_reset (stream_of (frame_in h)) a.log)
     (resets-is e (stream_of (frame_in h)) ∙ ap (λ o. hits o (stream_of (frame_in h))) r) k) a.held v.held_kept)
-held-left (Some n) e a r v = filter-where _ _ a.held (All-weaker (λ h. is_lost_entry a.log h ≡ false) (λ h. not (is_lost_entry (e ∷ a.log) h) ≡ not (is_dropped_entry n h)) (λ h k.
+held-left (Some n) e a r v = same-filter _ _ a.held (All-weaker (λ h. is_lost_entry a.log h ≡ false) (λ h. not (is_lost_entry (e ∷ a.log) h) ≡ not (is_dropped_entry n h)) (λ h k.
     loses-one-held (has_bytes (frame_in h)) (resets (stream_of (frame_in h)) e) (is_reset (stream_of (frame_in h)) a.log) (stream_of (frame_in h) == n)
-    (resets-is e (stream_of (frame_in h)) ∙ ap (λ o. hits o (stream_of (frame_in h))) r ∙ eqb-turn n (stream_of (frame_in h))) k) a.held v.held_kept)
+    (resets-is e (stream_of (frame_in h)) ∙ ap (λ o. hits o (stream_of (frame_in h))) r ∙ number-swapped n (stream_of (frame_in h))) k) a.held v.held_kept)
 
 -- the account with one more entry, and with these frames
 abbrev pub with_entry : LogEntry → Account → List Waiting → List LogEntry → Account
@@ -272,7 +274,7 @@ updates-noted : (id : ℕ) (e : LogEntry) (a : Account) → increment_given id e
     → total (increment_given id) (e ∷ a.log) + updates_in id (noted e a).waiting ≤ total (increment_owed id) (e ∷ a.log)
 unfolding noted
 updates-noted id e a g l =
-    let less : updates_in id (filter (λ w. not (is_lost (e ∷ a.log) w)) a.waiting) ≤ updates_in id a.waiting = updates-less id (λ w. not (is_lost (e ∷ a.log) w)) a.waiting in
+    let less : updates_in id (filter (λ w. not (is_lost (e ∷ a.log) w)) a.waiting) ≤ updates_in id a.waiting = updates-kept id (λ w. not (is_lost (e ∷ a.log) w)) a.waiting in
     rw (sum_by-cons (increment_given id) e a.log, sum_by-cons (increment_owed id) e a.log) (omega arith)
 
 -- an entry on the connection or on an opened stream, which keeps to the windows, leaves the account valid

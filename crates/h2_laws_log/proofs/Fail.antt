@@ -14,9 +14,10 @@ use Rattle.h2_model.specs.Valid.{Valid, is_lost, is_lost_entry, is_of_opened, is
 use Rattle.h2_laws_log.specs.Sound.{CallsSound, has_left, may_be_held}
 use Rattle.h2_laws_log.specs.Calling.{failing}
 use Rattle.h2_laws_log.proofs.Queues.{queued-cons, queued-append, queued-split, held-append, updates-append, updates-kept}
-use Rattle.h2_laws_log.proofs.Same.{Same, same-untouched, none-moved, window-same}
+use Rattle.h2_laws_log.proofs.Same.{Same, same-untouched, none-moved}
 use Rattle.h2_laws_log.proofs.Valids.{valid-moved}
 use Rattle.h2_laws_log.proofs.Sounds.{fresh-left}
+use Rattle.h2_laws_log.proofs.Receives.{window-stays}
 
 dropped-data : (n : ℕ) (queue : List Waiting) → held_data n (map (λ w. Handed w.frame) queue) ≡ queued n queue
 dropped-data n [] = refl
@@ -58,7 +59,7 @@ module _ (code : ℕ) (a : Account) (v : Valid a) (s : CallsSound a) (e : violat
   fail-seen =
       let s : streams (violated code a) ≡ streams a = none-moved a (violated code a) v refl (λ n p. same-after n) in
       let w : connection_window (violated code a) ≡ connection_window a =
-      window-same a (violated code a) refl (sent-after 0) in
+      window-stays a (violated code a) refl (sent-after 0) in
       λ i. record (seen a) {
         violation = Some code;
         window = w i;

@@ -133,11 +133,6 @@ all-held-by P false f held p h = h
 
 -- What a live stream is
 
-pub live-opened : (id : ℕ) (log : Log) → is_live id log ≡ true → is_opened id log ≡ true
-live-opened id log l =
-    both-left (is_opened id log) (not (is_reset id log))
-    (both-left (is_opened id log && not (is_reset id log)) (not (is_ended_by_peer id log && is_ended_here id log)) l)
-
 pub live-not-reset : (id : ℕ) (log : Log) → is_live id log ≡ true → is_reset id log ≡ false
 live-not-reset id log l =
     not-true (is_reset id log)

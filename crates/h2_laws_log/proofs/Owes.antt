@@ -19,11 +19,13 @@ use Rattle.h2_model.specs.State.{seen, stream_of_log}
 use Rattle.h2_model.specs.Moves.{charged, with_update, resetting, queueing, holding, owing_frame, kept_waiting}
 use Rattle.h2_model.specs.Valid.{Valid, is_of_opened, is_lost, is_lost_entry, is_update_owed, updates_in, update_of}
 use Rattle.h2_laws_log.specs.Steps.{reset_by, without_waiting, without_held, owing_frames}
-use Rattle.h2_laws_log.proofs.Drops.{eqb-turn, held-sum, entry_data, queued-entered, updates-entered, all-entered, updates-less}
+use Rattle.h2_laws_log.proofs.Drops.{held-sum, entry_data, updates-entered}
 use Rattle.h2_laws_log.proofs.Lives.{Same, same-stream, same-untouched, stream-moved, streams-stay, moved-on}
 use Rattle.h2_laws_log.proofs.Entries.{apart, with_entry, noted-is, same-entry, nothing-more, Fits, valid-noted}
 use Rattle.h2_laws_log.proofs.Receives.{window-stays, with-parts, quiet-parts}
 use Rattle.h2_laws_log.proofs.Reports.{reset-parts}
+use Rattle.h2_laws_log.proofs.Queues.{queued-entered, updates-kept, all-entered}
+use Rattle.h2_laws_log.proofs.Lists.{number-swapped}
 
 -- A frame that is no DATA brings no bytes
 
@@ -97,7 +99,7 @@ owed-more k n log = sum_by-cons (increment_owed k) (Owed (frame.Window k n)) log
 
 -- a window update
 update-others : (k n : ℕ) (a : Account) (id : ℕ) → (id == 0) ≡ false → (id == k) ≡ false → Same id a (owed_account (frame.Window k n) a)
-update-others k n a id z s = same-entry id (Owed (frame.Window k n)) a (entered (frame.Window k n) a.waiting) a.held refl (apart id (Owed (frame.Window k n)) z (eqb-turn k id ∙ s))
+update-others k n a id z s = same-entry id (Owed (frame.Window k n)) a (entered (frame.Window k n) a.waiting) a.held refl (apart id (Owed (frame.Window k n)) z (number-swapped k id ∙ s))
     (no-longer (frame.Window k n) id a.waiting refl) refl
 
 update-sent : (id k n : ℕ) (a : Account) → data_sent id (owed_account (frame.Window k n) a) ≡ data_sent id a
@@ -218,7 +220,7 @@ owed-updates : (id : ℕ) (f : Frame) (a : Account) → Valid a
     → total (increment_given id) (noted (Owed f) a).log + (update_of id (fresh f) + updates_in id (noted (Owed f) a).waiting) ≤ total (increment_owed id) (noted (Owed f) a).log
 unfolding noted
 owed-updates id f a v =
-    let less : updates_in id (noted (Owed f) a).waiting ≤ updates_in id a.waiting = updates-less id (λ w. not (is_lost (Owed f ∷ a.log) w)) a.waiting in
+    let less : updates_in id (noted (Owed f) a).waiting ≤ updates_in id a.waiting = updates-kept id (λ w. not (is_lost (Owed f ∷ a.log) w)) a.waiting in
     rw (nothing-more (increment_given id) (Owed f) a.log refl, sum_by-cons (increment_owed id) (Owed f) a.log)
     (by (total (increment_given id) a.log) (increment_owed id (Owed f)) (updates_in id a.waiting) _ (total (increment_owed id) a.log) less (v.updates id))
   where

@@ -23,7 +23,7 @@ queued-split n p queue = sum_by-filter_both p (λ w. not (p w)) (λ w. refl) (λ
 
 -- a sum over the queue, to which a frame's place is nothing
 
-sum-placed : (m : Waiting → ℕ) (x : Waiting) (queue : List Waiting) → sum_by m (placed x queue) ≡ m x + sum_by m queue
+pub sum-placed : (m : Waiting → ℕ) (x : Waiting) (queue : List Waiting) → sum_by m (placed x queue) ≡ m x + sum_by m queue
 sum-placed m x [] = sum_by-cons m x []
 sum-placed m x (w ∷ queue) =
     by (is_free x || not (is_free w) || list_any (stays_behind x.frame) (w ∷ queue)) (sum-placed m x queue)
@@ -33,7 +33,7 @@ sum-placed m x (w ∷ queue) =
     by true ih = omega (arith, ih, sum_by-cons m w (placed x queue), sum_by-cons m w queue)
     by false ih = sum_by-cons m x (w ∷ queue)
 
-sum-all-placed : (m : Waiting → ℕ) (xs queue : List Waiting) → sum_by m (all_placed xs queue) ≡ sum_by m xs + sum_by m queue
+pub sum-all-placed : (m : Waiting → ℕ) (xs queue : List Waiting) → sum_by m (all_placed xs queue) ≡ sum_by m xs + sum_by m queue
 sum-all-placed m [] queue = omega arith
 sum-all-placed m (x ∷ xs) queue = sum-all-placed m xs (placed x queue)
     ∙ rw (sum_by-cons m x xs, sum-placed m x queue) (omega arith)
@@ -51,7 +51,7 @@ sum-end-placed m same id queue =
     ∙ ap (λ k. k + sum_by m (filter (λ w. not (is_free_of id w)) queue)) (sum-fixed m same (filter (is_free_of id) queue))
     ∙ sum_by-filter_both (is_free_of id) (λ w. not (is_free_of id w)) (λ w. refl) m queue
 
-sum-entered : (m : Waiting → ℕ) → ((w : Waiting) → m (with_place w) ≡ m w) → (f : Frame) (queue : List Waiting)
+pub sum-entered : (m : Waiting → ℕ) → ((w : Waiting) → m (with_place w) ≡ m w) → (f : Frame) (queue : List Waiting)
     → sum_by m (entered f queue) ≡ m (fresh f) + sum_by m queue
 sum-entered m same f queue =
     sum-placed m (fresh f) (if is_reset_frame f then with_end_placed (stream_of f) queue else queue)
@@ -65,7 +65,7 @@ sum-entered m same f queue =
 pub queued-entered : (n : ℕ) (f : Frame) (queue : List Waiting) → queued n (entered f queue) ≡ data_in n f + queued n queue
 queued-entered n f queue = sum-entered (λ w. data_in n w.frame) (λ w. refl) f queue
 
-updates-sum : (n : ℕ) (queue : List Waiting) → updates_in n queue ≡ sum_by (update_of n) queue
+pub updates-sum : (n : ℕ) (queue : List Waiting) → updates_in n queue ≡ sum_by (update_of n) queue
 updates-sum n [] = refl
 updates-sum n (w ∷ queue) = ap (λ k. update_of n w + k) (updates-sum n queue) ∙ sym (sum_by-cons (update_of n) w queue)
 

@@ -19,9 +19,9 @@ use Rattle.h2_model.specs.Moves.{receiving, with_data, with_increment, unless_ov
 use Rattle.h2_model.specs.Valid.{Valid, is_of_opened}
 use Rattle.h2_laws_log.specs.Steps.{about}
 use Rattle.h2_laws_log.proofs.Numbers.{widened, widened-stream}
-use Rattle.h2_laws_log.proofs.Drops.{eqb-turn}
 use Rattle.h2_laws_log.proofs.Lives.{Same, SameSums, same-stream, stream-moved, streams-stay, moved-over, moved-on}
 use Rattle.h2_laws_log.proofs.Entries.{Apart, apart, same-opened, with_entry, noted-is, same-entry, nothing-more, Fits, fits, valid-noted}
+use Rattle.h2_laws_log.proofs.Lists.{number-swapped}
 
 -- Windows
 
@@ -46,7 +46,7 @@ with-parts s {w} {w'} {r} {r'} {u} {u'} {x} {x'} p q m n =
 
 -- an entry changes no stream but the one of which it speaks
 pub others : (e : LogEntry) (a : Account) → opening e ≡ None → (id : ℕ) → (id == 0) ≡ false → (id == about e) ≡ false → Same id a (with_entry e a a.waiting a.held)
-others e a o id z s = same-entry id e a a.waiting a.held o (apart id e z (eqb-turn (about e) id ∙ s)) refl refl
+others e a o id z s = same-entry id e a a.waiting a.held o (apart id e z (number-swapped (about e) id ∙ s)) refl refl
 
 -- Frames that are no DATA and no WINDOW_UPDATE
 

@@ -20,10 +20,11 @@ use Rattle.h2_model.specs.Moves.{decoding, adjusted, with_end, with_head, unless
 use Rattle.h2_model.specs.Valid.{Valid, is_of_opened}
 use Rattle.h2_laws_log.specs.Steps.{about}
 use Rattle.h2_laws_log.proofs.Numbers.{given-back}
-use Rattle.h2_laws_log.proofs.Drops.{eqb-turn, queued-kept, held-kept, queued-less, held-less}
+use Rattle.h2_laws_log.proofs.Drops.{queued-kept, held-kept, queued-less, held-less}
 use Rattle.h2_laws_log.proofs.Lives.{SameSums, same-untouched, stream-moved, stream-marked, moved-over, moved-on, moved-off}
 use Rattle.h2_laws_log.proofs.Entries.{apart, Silent, with_entry, noted-is, same-entry, same-sums, same-opened, nothing-more, fits, valid-noted}
 use Rattle.h2_laws_log.proofs.Receives.{window-stays, receive-stays, unreturned-stays, with-parts, quiet-parts, others}
+use Rattle.h2_laws_log.proofs.Lists.{number-swapped}
 
 -- an entry that adds to no sum
 silent-parts : (s : State) (e : LogEntry) (a : Account) (x : List Stream) → ((id : ℕ) → Silent id e) → streams (with_entry e a a.waiting a.held) ≡ x
@@ -95,7 +96,7 @@ reset-parts s e k a w v o ek r q qw =
     (rw (nothing-more (increment_owed 0) e a.log q.owed, nothing-more (data_received 0) e a.log q.received) refl)
     (stream-moved k (λ t. None) a b v.descends (same-opened e a.log o)
     (λ id z n.
-    let turned : (k == id) ≡ false = eqb-turn k id ∙ n in
+    let turned : (k == id) ≡ false = number-swapped k id ∙ n in
     same-entry id e a w (kept_held k a.held) o (apart id e z (rw ek turned)) (qw id ∙ queued-kept id k a.waiting z turned) (held-kept id k a.held z turned))
     (λ l. moved-off k a b (rw r refl)))
 

@@ -6,14 +6,13 @@ use Rattle.h2_frames.specs.declared.frame.Frame.{Frame}
 use Rattle.h2_frames.specs.declared.frame.Frame.TheVariants as frame
 use Rattle.h2_model.specs.Codes.{protocol_error}
 use Rattle.h2_model.specs.Log.{Opened, violation, is_empty}
-use Rattle.h2_model.specs.Streams.{opened}
-use Rattle.h2_model.specs.Blocks.{OpenBlock, open_block}
+use Rattle.h2_model.specs.Blocks.{open_block}
 use Rattle.h2_model.specs.Account.{Account}
 use Rattle.h2_model.specs.Violations.{violation_of}
 use Rattle.h2_model.specs.Calls.{Role, May}
 use Rattle.h2_model.specs.History.{Call, Feed, Open, Head, Send, Finish, Reset, Take, preface, violated, handed, headed, arrived, arrived_by, with_first, with_greeting, with_byte, with_bytes, called, next_number}
-use Rattle.h2_laws_log.specs.Steps.{is_block_opened, FramesSound}
-use Rattle.h2_laws_log.proofs.Arrives.{arrives, sound-aside}
+use Rattle.h2_laws_log.specs.Steps.{FramesSound}
+use Rattle.h2_laws_log.proofs.Arrives.{arrives, sound-aside, same-block}
 use Rattle.h2_laws_log.specs.Sound.{CallsSound}
 use Rattle.h2_laws_log.proofs.Arrivals.{byte-sound}
 use Rattle.h2_laws_log.proofs.Fail.{fail-valid}
@@ -27,11 +26,6 @@ use Rattle.h2_laws_log.proofs.RoomArrives.{arrived-counted}
 record Fed (a : Account) : Type 0 where
   frames : FramesSound a
   counted : Counted a
-
-same-block : (a b : Account) (o : Option OpenBlock) → opened b.log ≡ opened a.log → is_block_opened a o ≡ true
-    → is_block_opened b o ≡ true
-same-block a b None e h = refl
-same-block a b (Some x) e h = rw e h
 
 violated-fed : (code : ℕ) (a : Account) → CallsSound a → violation a.log ≡ None → Fed a → Fed (violated code a)
 violated-fed code a t e k = record {

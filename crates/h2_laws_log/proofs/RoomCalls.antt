@@ -14,12 +14,13 @@ use Rattle.h2_model.specs.History.{frame_in, noted, queue_with, handed, released
 use Rattle.h2_model.specs.Valid.{Valid}
 use Rattle.h2_laws_log.proofs.Drops.{sum-filter}
 use Rattle.h2_laws_log.proofs.Lists.{same-number, both-left, both-right, and-not}
-use Rattle.h2_laws_log.proofs.Hand.{handed-is, live-opened, live-not-reset}
+use Rattle.h2_laws_log.proofs.Hand.{handed-is, live-not-reset}
 use Rattle.h2_laws_log.proofs.Same.{zero-unopened}
 use Rattle.h2_laws_log.proofs.Take.{given-same}
 use Rattle.h2_laws_log.specs.Rooms.{one_if, ends_due, resets_due, Counted}
 use Rattle.h2_laws_log.proofs.RoomSums.{sum-behind}
 use Rattle.h2_laws_log.proofs.RoomGrows.{Grows, one, stays, grows-on, noted-grows, noted-queued, queued-grows, handed-grows, counted-grows, counted-stays, counted-end, counted-reset}
+use Rattle.h2_laws_log.proofs.Brings.{live-opened}
 
 -- A stream by its number
 

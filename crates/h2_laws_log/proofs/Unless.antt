@@ -16,11 +16,12 @@ use Rattle.h2_laws_log.specs.Sound.{CallsSound}
 use Rattle.h2_laws_log.specs.Calling.{heading}
 use Rattle.h2_laws_log.proofs.Lists.{both-left, both-right}
 use Rattle.h2_laws_log.proofs.Same.{Same, same-untouched}
-use Rattle.h2_laws_log.proofs.Hand.{live-opened, opened-stays, headless-stays}
+use Rattle.h2_laws_log.proofs.Hand.{opened-stays, headless-stays}
 use Rattle.h2_laws_log.proofs.HandData.{data-seen, data-valid}
 use Rattle.h2_laws_log.proofs.HandReset.{reset-seen, reset-valid}
 use Rattle.h2_laws_log.proofs.Head.{head-seen, head-valid, head-opened, head-headless}
 use Rattle.h2_laws_log.proofs.Sounds.{handed-sound, headed-sound}
+use Rattle.h2_laws_log.proofs.Brings.{live-opened}
 
 -- What a call leaves
 
@@ -144,7 +145,7 @@ reset-headless id code a k =
 
 -- head
 
-found-passes : (p : ℕ → Bool) (xs : List ℕ) (n : ℕ) → find p xs ≡ Some n → p n ≡ true
+pub found-passes : (p : ℕ → Bool) (xs : List ℕ) (n : ℕ) → find p xs ≡ Some n → p n ≡ true
 found-passes p [] n e = absurd cc
 found-passes p (x ∷ xs) n e = by (p x) refl (found-passes p xs n) e
   where

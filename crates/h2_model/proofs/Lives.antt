@@ -74,7 +74,7 @@ looked id (n ∷ ids) a = by (looked id ids a) (n == id) refl (is_live n a.log) 
     by ih false s true l = rw (is-live n a l) (found-first id n a (live_among ids a) ∙ rw s ih)
     by ih false s false l = rw (isnt-live n a l) (rw s ih)
 
-not-opened : (id : ℕ) (a : Account) → is_opened id a.log ≡ false → live id a ≡ None
+pub not-opened : (id : ℕ) (a : Account) → is_opened id a.log ≡ false → live id a ≡ None
 not-opened id a e = isnt-live id a (by (is_opened id a.log) e)
   where
     by : (o : Bool) → o ≡ false → (o && not (is_reset id a.log) && not (is_ended_by_peer id a.log && is_ended_here id a.log)) ≡ false

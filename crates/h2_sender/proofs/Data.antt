@@ -9,15 +9,9 @@ use Rattle.h2_model.specs.Moves.{is_dropped_entry, kept_held}
 use Rattle.h2_model.specs.Queue.{Waiting, is_free, fresh, placed, entered, queued, data_in, behind}
 use Rattle.h2_model.specs.Windows.{held_data}
 use Rattle.h2_sender.specs.Sending.{entry_of, IsHeld, IsGoaway}
+use Rattle.h2_sender.proofs.Totals.{data_of_one}
 
 -- an entry is what its frame is
-
-data_of_one : (id : ℕ) (f : Frame) → data_in id f ≤ data_in 0 f
-data_of_one id (frame.Data n bytes last size) = by_test ((id == 0) || (n == id)) where
-  by_test : (own : Bool) → cond own (length bytes) 0 ≤ length bytes
-  by_test true = omega arith
-  by_test false = omega arith
-data_of_one id f = search rules
 
 pub data_is : (id : ℕ) (owed : Bool) (f : Frame) → IsHeld owed f → data_in id f ≡ held_data id (entry_of owed f ∷ [])
 data_is id true f h =

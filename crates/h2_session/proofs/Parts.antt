@@ -10,7 +10,7 @@ use Rattle.h2_frames.specs.declared.frame.Frame.TheVariants as frame
 use Rattle.h2_model.specs.declared.stream.Stream.{Stream}
 use Rattle.h2_model.specs.Log.{LogEntry, Handed}
 use Rattle.h2_model.specs.Queue.{Waiting, entered}
-use Rattle.h2_model.specs.History.{frame_in, is_of, start}
+use Rattle.h2_model.specs.History.{is_of, start}
 use Rattle.h2_model.specs.Blocks.{table_after}
 use Rattle.h2_model.specs.State.{State, found}
 use Rattle.h2_model.specs.Moves.{adjusted, is_dropped, is_dropped_entry, kept_waiting, kept_held, dropped_bytes, resetting, handing, sending, giving, opening, new_stream, with_sent}
@@ -23,7 +23,7 @@ use Rattle.h2_session.specs.Refused.{refused}
 use Rattle.h2_session.specs.Keeping.{CanGive, heading_as}
 use Rattle.h2_laws_kept.specs.Kept.{Kept, IsSame, lacks_head}
 use Rattle.h2_laws_kept.specs.Rooms.{KeepsCapacity}
-use Rattle.h2_laws_kept.proofs.Sums.{length-entered, length-filtered}
+use Rattle.h2_laws_kept.proofs.Sums.{length-filtered}
 
 -- the part of a call that a head's lack decides
 pub lacks-same : (k l : Kept) → IsSame k l → (id : ℕ) → lacks_head id l ≡ lacks_head id k
@@ -162,10 +162,6 @@ counts zero n s z h = absurd (z refl)
 counts (suc id) n s z h = h
 
 -- what is held enters the queue
-
-pub length-all-entered : (held : List LogEntry) (queue : List Waiting) → length (all_entered held queue) ≡ length held + length queue
-length-all-entered [] queue = omega arith
-length-all-entered (e ∷ held) queue = omega (arith, length-all-entered held (entered (frame_in e) queue), length-entered (frame_in e) queue)
 
 -- Credit
 

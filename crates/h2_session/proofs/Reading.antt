@@ -16,7 +16,6 @@ use Rattle.h2_model.specs.Account.{Account}
 use Rattle.h2_model.specs.History.{Feed, preface, arrived, called, violated, is_violated}
 use Rattle.h2_model.specs.Calls.{event_or_nothing, used_bytes}
 use Rattle.h2_laws_log.specs.Feeding.{EndsAt, EndsAtFault, HasRead, KeepsPart, ReadsFrames, ReadsPreface}
-use Rattle.h2_laws_log.proofs.Fronts.{nothing-begun}
 use Rattle.h2_laws_log.proofs.Keeps.{keeps-arrived}
 use Rattle.h2_laws_log.proofs.Parts.{part-bytes, part-called}
 use Rattle.h2_laws_log.proofs.Steps.{reads-frame, reads-preface, ends-preface, ends-stopped, ends-all, ends-more, ends-at-other, ends-fault, answers, refuses, leaves, fault-refuses}
@@ -26,6 +25,7 @@ use Rattle.h2_laws_kept.specs.StandsFor.{ReadsInput, Holds}
 use Rattle.h2_session.specs.Feeding.{Runs, Reaches, Greets, Told, RefusesBytes}
 use Rattle.h2_session.proofs.Aside.{input-aside, answered-none}
 use Rattle.h2_session.proofs.Sounds.{breaks-quietly}
+use Rattle.h2_frames.proofs.Cuts.{nothing}
 
 below : (n : ℕ) → n < 24 → (n == 24) ≡ false
 below n l = ne_eqb n 24 (λ e. absurd (omega (arith, l, e)))
@@ -213,7 +213,7 @@ module _ (k : Kept) (a : Account) (bytes : List ℕ) (n : ℕ) (met : Greets k a
   frame-held reader e = input-aside k b h.holds k.greeted reader b.greeted [] part (λ v. reader-reads reader [] e)
     where
       part : KeepsPart c
-      part = record { frame = λ t. nothing-begun; preface = λ f. not-before f; short = λ f. not-before f }
+      part = record { frame = λ t. nothing; preface = λ f. not-before f; short = λ f. not-before f }
 
   module _ (f : Frame) (m : ℕ) (w : first (k.reader ++ drop n bytes) ≡ Whole f (length k.reader + m)) (p : 0 < m)
       (q : m ≤ length (drop n bytes)) where

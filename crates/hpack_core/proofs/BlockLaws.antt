@@ -12,6 +12,7 @@ use Rattle.hpack_core.specs.Blocks.{lead_of, IsLiteral, IsRepr, Block}
 use Rattle.hpack_core.specs.Blocks.IsRepr.{indexed, incremental, resize, never, plain}
 use Rattle.hpack_core.specs.Blocks.Block.{done, field, other}
 use Rattle.hpack_core.proofs.StringLaws.{bind_ok, prim_ok, guard_ok, int_lies, entry_lies, Lies, literal_lies}
+use Rattle.hpack_core.proofs.BlockLemmas.{Read}
 
 abbrev pub ReprAt : TableState → Bool → List ℕ → ℕ → Step → Type 0
 ReprAt t first bytes at st = Lies (λ s. IsRepr t first s st.field st.table) bytes at st.next
@@ -88,9 +89,6 @@ unfolding step_at
 step_lies t first bytes at st a e = by_form t first bytes at st _ _ _ a refl refl refl e
 
 -- ---- blocks
-
-abbrev Read : Type 0
-Read = Result (List Field × TableState) HpackFault
 
 fields_of : Read → List Field
 fields_of (Ok p) = p.0

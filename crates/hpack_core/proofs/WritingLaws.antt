@@ -14,6 +14,7 @@ use Rattle.hpack_core.specs.Blocks.Block.{done, field, other}
 use Rattle.hpack_core.specs.Writing.{StringWritten, first_from, is_name, is_field, field_number, name_number, NameWritten, FieldWritten, FieldsWritten, update, BlockWritten}
 use Rattle.hpack_core.proofs.StringLaws.{lead_append}
 use Rattle.hpack_core.proofs.StaticLemmas.{count}
+use Rattle.hpack_prim.proofs.Codes.{both}
 
 -- the first byte of an integer as it is written
 pub record Lead (prefix first n : ℕ) : Type 0 where
@@ -62,11 +63,6 @@ hit : (p : Field → Bool) (from : ℕ) (es : List Field) (n : ℕ) → first_fr
 unfolding first_from
 hit p from [] n e = (cc)
 hit p from (x ∷ es) n e = hit_at p from x es n (p x) refl (λ m f. hit p (from + 1) es m f) e
-
-both : (p q : Bool) → (p && q) ≡ true → (p ≡ true) × (q ≡ true)
-both true true h = (refl, refl)
-both true false h = (cc)
-both false q h = (cc)
 
 equal : (f e : Field) → is_field f e ≡ true → f ≡ e
 equal f e h =

@@ -83,11 +83,11 @@ byte_written out written held left number whole sum room e =
     ap (λ (v : List ℕ). v ++ bits left number) (ap bits_of (take_more_set out written byte room) ∙ bits_of-append (take written out) (byte ∷ []) ∙ ap (λ (v : List ℕ). bits_of (take written out) ++ v) (one_byte byte))
     ∙ append_assoc (bits_of (take written out)) (bits 8 byte) (bits left number) ∙ ap (λ (v : List ℕ). bits_of (take written out) ++ v) (sym split) ∙ e
 
-words-cons : (s : ℕ) (ss : List ℕ) → words (s ∷ ss) ≡ word s ++ words ss
+pub words-cons : (s : ℕ) (ss : List ℕ) → words (s ∷ ss) ≡ word s ++ words ss
 unfolding words
 words-cons s ss = refl
 
-words-nil : words [] ≡ []
+pub words-nil : words [] ≡ []
 unfolding words
 words-nil = refl
 

@@ -5,7 +5,7 @@ use Rattle.std.proofs.Math.Nat.{mul-add-div_right, pow-suc}
 use Rattle.std.proofs.lemmas.List.{drop-append-le, drop-drop, drop_at, drop_all, take_at, take-append-le, take-append-drop, get_or-drop}
 use Rattle.hpack_prim.specs.Huffman.{bits, bits_of, word, symbol_at}
 use Rattle.hpack_prim.specs.Decoding.{Begins, HoldsBits}
-use Rattle.hpack_prim.proofs.Walks.{IsBits, symbol_found, symbol_more, walk_finds}
+use Rattle.hpack_prim.proofs.Walks.{IsBits, symbol_found, symbol_more, walk_finds, rank_in}
 use Rattle.hpack_prim.proofs.BitLemmas.{length_bits, length_bits_of, drop_bits, bits_of-append, one_byte, IsBits-bits, IsBits-bits_of, IsBits-drop}
 
 -- the high bits of a number, and the others
@@ -168,12 +168,8 @@ symbol_there bytes at window len s w b inside =
     let whole : xs ≡ word s ++ drop len xs = sym (take-append-drop len xs) ∙ ap (λ (v : List ℕ). v ++ drop len xs) (sym front) in
     walk_finds xs s (drop len xs) c.2 whole ∙ ap (λ (v : List ℕ). Some (s, v)) (drop-drop len at (bits_of bytes))
 
-abbrev symbol_in : Option (ℕ × List ℕ) → ℕ
-symbol_in None = 0
-symbol_in (Some p) = p.0
-
 same_symbol : (bs : List ℕ) (t s : ℕ) (q r : List ℕ) → symbol_at bs ≡ Some (t, q) → symbol_at bs ≡ Some (s, r) → t ≡ s
-same_symbol bs t s q r e f = ap symbol_in (sym e ∙ f)
+same_symbol bs t s q r e f = ap rank_in (sym e ∙ f)
 
 -- a code of these bits would end where the window's code does
 no_symbol : (xs tail : List ℕ) (len s : ℕ) (r : List ℕ) (w : Option (ℕ × List ℕ)) → IsBits xs → symbol_at (xs ++ tail) ≡ Some (s, r) → length (word s) ≡ len → length xs < len → symbol_at xs ≡ w → symbol_at xs ≡ None
