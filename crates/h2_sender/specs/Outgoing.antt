@@ -29,7 +29,7 @@ IsSendable (frame.Continuation id part ends) = length part ≤ 16384
 IsSendable other = Unit {0}
 
 -- what is true of an outgoing frame's fields
-pub record Fits (f : Frame) (greeting : Bool) (given : ℕ) : Type 0 where
+pub record IsOutgoing (f : Frame) (greeting : Bool) (given : ℕ) : Type 0 where
   pub sendable : IsSendable f
   pub within : given ≤ length (written greeting f)
 

@@ -2,7 +2,7 @@
 
 ghost use Rattle.std.specs.Prelude.{◌≡◌, ◌≤◌, ◌<◌, ◌+◌, ◌-◌, ◌==◌, ◌^◌, ◌||◌, true, false, None, Some, OnOk, pos, ◌+ℤ◌, ◌≤ℤ◌, if◌then◌else◌};
 ghost use Rattle.h2_frames.specs.declared.frame.Frame.TheVariants as frame;
-ghost use Rattle.h2_model.proofs.Lives.{found};
+ghost use Rattle.h2_model.specs.State.{found};
 ghost use Rattle.h2_model.specs.Blocks.{more_of};
 ghost use Rattle.h2_model.specs.Moves.{adjusted, receiving, resetting, with_data, with_increment};
 ghost use Rattle.h2_model.specs.Settings.{least_in, setting_in};

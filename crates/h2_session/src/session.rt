@@ -4,13 +4,13 @@ ghost use Rattle.std.specs.Prelude.{◌≡◌, ◌≤◌, ◌<◌, ◌+◌, ◌-
 ghost use Rattle.std.specs.Option.{option_to_list};
 ghost use Rattle.hpack_core.specs.Tables.{kept};
 ghost use Rattle.h2_frames.specs.declared.frame.Frame.TheVariants as frame;
-ghost use Rattle.h2_model.specs.Calls.{Gives, MayHead, Role, can_open, control, is_open_here, kept_streams, now, sendable, unsent_bytes, waits};
+ghost use Rattle.h2_model.specs.Calls.{GivesBytes, MayHead, Role, can_open, control, is_open_here, kept_streams, now, sendable, unsent_bytes, waits};
 ghost use Rattle.h2_model.specs.History.{Call, Feed, Open, Head, Send, Finish, Reset, Take, next_number};
 ghost use Rattle.h2_model.specs.Moves.{giving, giving_all, handing, resetting};
 ghost use Rattle.h2_model.specs.Streams.{is_live};
 ghost use Rattle.h2_model.specs.Windows.{stream_window};
 ghost use Rattle.h2_model.specs.declared.stream.Stream.{Stream};
-ghost use Rattle.h2_model.proofs.Lives.{found};
+ghost use Rattle.h2_model.specs.State.{found};
 ghost use Rattle.h2_sender.specs.Sending.{data_kept};
 ghost use Rattle.h2_session.specs.Bytes.{begun_bytes, kept_bytes};
 ghost use Rattle.h2_session.specs.Keeping.{CanGive, CanGiveWhole, KeepsRoom, KeepsRooms, heading_as, leaves_a_stream, update_in};
@@ -382,7 +382,7 @@ impl Session {
     pub fn take(&mut self, out: &mut [u8]) -> u32
         requires { length out.old < 2 ^ 32 }
         ensures within { result ≤ length out.old }
-        ensures gives { (r : Role) (h : List Call) → StandsFor r self.old h → Gives (now r h) out.old out.new result }
+        ensures gives { (r : Role) (h : List Call) → StandsFor r self.old h → GivesBytes (now r h) out.old out.new result }
         ensures stands { (r : Role) (h : List Call) → StandsFor r self.old h → StandsFor r self.new (Take result ∷ h) }
     {
         let Taken { bytes, whole } = self.sender.take(out);
