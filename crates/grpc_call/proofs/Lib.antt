@@ -1,0 +1,4 @@
+pub mod Prefixes
+pub mod First
+pub mod Numbers
+pub mod Messages

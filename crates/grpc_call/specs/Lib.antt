@@ -1,0 +1,5 @@
+pub mod Framed
+pub mod Blocks
+pub mod Reading
+pub mod Keeping
+pub mod Written
