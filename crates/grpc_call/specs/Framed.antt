@@ -39,7 +39,7 @@ framed_by (Refused fault) bytes behind = record { messages = []; rest = bytes; f
 framed_by (Whole message) bytes behind = before_rest message (behind (drop (5 + length message) bytes))
 
 -- (so many messages at most are read: each takes five bytes or more)
-pub framed_within : ℕ → ℕ → List ℕ → Framed
+abbrev pub framed_within : ℕ → ℕ → List ℕ → Framed
 framed_within zero limit bytes = record { messages = []; rest = bytes; fault = None }
 framed_within (suc fuel) limit bytes = framed_by (first limit bytes) bytes (λ rest. framed_within fuel limit rest)
 

@@ -3,3 +3,4 @@ pub mod Blocks
 pub mod Reading
 pub mod Keeping
 pub mod Written
+pub mod Items

@@ -14,12 +14,14 @@
 
 mod fault;
 mod heads;
+mod laws;
 mod prefix;
 mod reader;
 mod status;
 mod writing;
 
 pub use fault::CallFault;
+pub use laws::{cut_data_is_joined, data_is_told, ends_are_told, heads_are_told, reader_begins, written_message_is_read};
 pub use reader::CallReader;
 pub use status::status_of;
 pub use writing::{call_head, frame_of};
