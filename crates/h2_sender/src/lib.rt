@@ -3,7 +3,6 @@
 #![tactic(auto)]
 
 mod block;
-mod copy;
 mod frames;
 mod held;
 mod outgoing;
@@ -13,7 +12,6 @@ mod sender;
 mod sums;
 #[cfg(test)]
 mod tests;
-mod wire;
 
 pub use queue::Taken;
 pub use sender::Sender;

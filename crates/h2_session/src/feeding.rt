@@ -11,11 +11,9 @@ ghost use Rattle.h2_laws_kept.specs.StandsFor.{Holds, StandsFor};
 
 use crate::session::Session;
 use h2_frames::codes::{PROTOCOL_ERROR, REFUSED_STREAM};
+use h2_frames::protocol::PREFACE;
 use h2_frames::{FrameFault, Step};
 use h2_model::{Event, Fed, SessionFault};
-
-/// What a client sends first: RFC 9113 section 3.4.
-pub(crate) const PREFACE: [u8; 24] = *b"PRI * HTTP/2.0\r\n\r\nSM\r\n\r\n";
 
 impl Session {
     /// Takes bytes up to the first that brings something, and says what that is. The first connection error is answered

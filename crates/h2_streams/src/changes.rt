@@ -5,6 +5,7 @@ ghost use Rattle.h2_model.specs.Moves.{new_stream, unless_over};
 ghost use Rattle.h2_streams.specs.Changes.{changed, Allows, Counts, Same};
 ghost use Rattle.h2_streams.specs.Tables.{HasCreditInRange};
 
+use h2_frames::protocol::FIRST_WINDOW;
 use h2_model::Stream;
 
 /// What happens to a live stream.
@@ -40,7 +41,7 @@ pub(crate) fn new_stream(id: u32) -> Stream
         here_ended: false,
         interim: true,
         credit: 0,
-        receive: 65_535,
+        receive: FIRST_WINDOW,
         unreturned: 0,
     }
 }

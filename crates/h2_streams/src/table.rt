@@ -10,6 +10,7 @@ ghost use Rattle.h2_streams.specs.Changes.{changed, Allows, Counts};
 ghost use Rattle.h2_streams.specs.Tables.{Ascends, Apart, HasCreditInRange, IsStreamTable};
 
 use crate::changes::{self, Change, changed};
+use h2_frames::protocol::WIDEST_WINDOW;
 use h2_model::Stream;
 use std::alloc::{AllocError, Global};
 use std::marker::Model;
@@ -95,7 +96,7 @@ fn is_too_wide(initial: u32, stream: &Stream) -> bool
     requires { HasCreditInRange stream.now }
     ensures { result ≡ is_too_wide (pos initial +ℤ stream.now.credit) }
 {
-    i64::from(initial) + stream.credit > 2_147_483_647
+    i64::from(initial) + stream.credit > WIDEST_WINDOW
 }
 
 fn widens(streams: &[Stream], initial: u32) -> bool

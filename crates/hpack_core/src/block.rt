@@ -8,7 +8,7 @@ ghost use Rattle.hpack_core.specs.Reading.{GivesValue, name_at, literal_at, inde
 
 use crate::HpackFault;
 use crate::strings::string;
-use crate::table::{Table, room_behind};
+use crate::table::{MOST, Table, room_behind};
 use ext_msgs::{Field, FieldList};
 use hpack_prim::read_int;
 use pb_wire::{Blob, Duplicate};
@@ -96,7 +96,7 @@ fn representation(
     }
     if form >= 32 {
         let (limit, next) = read_int(bytes, at, 5)?;
-        if limit > 4096 || !first {
+        if limit > MOST || !first {
             return Err(HpackFault::TableSize(at));
         }
         table.resize(limit);
