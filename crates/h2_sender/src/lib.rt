@@ -11,8 +11,6 @@ mod places;
 mod queue;
 mod sender;
 mod sums;
-#[cfg(test)]
-mod tests;
 mod wire;
 
 pub use queue::Taken;

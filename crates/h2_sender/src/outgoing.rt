@@ -19,7 +19,7 @@ use std::marker::Model;
 const PREFACE: [u8; 24] = *b"PRI * HTTP/2.0\r\n\r\nSM\r\n\r\n";
 
 /// A frame of which bytes wait.
-#[derive(Debug, Drop)]
+#[derive(Drop)]
 pub(crate) struct Outgoing {
     frame: Frame,
     // Whether the preface stands before it.

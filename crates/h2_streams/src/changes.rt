@@ -8,7 +8,7 @@ ghost use Rattle.h2_streams.specs.Tables.{IsInRange};
 use h2_model::Stream;
 
 /// What happens to a live stream.
-#[derive(Clone, Copy, Debug)]
+#[derive(Clone, Copy)]
 pub enum Change {
     /// DATA came: whether it ends the stream, and its length with padding.
     DataCame(bool, u32),
