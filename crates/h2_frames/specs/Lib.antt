@@ -4,4 +4,5 @@ pub mod Payloads
 pub mod Frames
 pub mod Spelling
 pub mod Reading
+pub mod Copied
 pub mod Runs

@@ -1,12 +1,12 @@
 //! The nine bytes before a payload: RFC 9113 section 4.1.
 
-ghost use Rattle.std.specs.Prelude.{◌≡◌, ◌+◌, ◌≤◌, ◌<◌, ◌^◌, ◌++◌, ◌∷◌, [], length, IfOk};
+ghost use Rattle.std.specs.Prelude.{◌≡◌, ◌+◌, ◌<◌, ◌^◌};
 ghost use Rattle.h2_frames.specs.Headers.{kind_of, header_of, has_flag, is_last, is_ack, ends_block, is_padded, has_priority, pad_byte, priority_bytes, has_wrong_size as wrong_size, is_misplaced as misplaced, header_fault};
-ghost use Rattle.h2_frames.specs.Spelling.{framed};
 
 use crate::codes::{FRAME_SIZE_ERROR, PROTOCOL_ERROR};
-use crate::{data_frame, goaway, headers_frame, ping, rst_stream, settings, window_update};
-use std::alloc::{AllocError, Global};
+use crate::flags::{ACK, END_HEADERS, END_STREAM, PADDED, PRIORITY};
+use crate::protocol::{HEAD_LEN, LONGEST_PAYLOAD};
+use crate::{data_frame, goaway, headers_frame, ping, rst_stream, settings, types, window_update};
 
 /// The type of a frame.
 #[derive(Clone, Copy)]
@@ -34,32 +34,20 @@ pub(crate) struct Header {
     pub(crate) stream: u32,
 }
 
-const LONGEST: u32 = 16_384;
-
-const END_STREAM: u8 = 1;
-
-const ACK: u8 = 1;
-
-const END_HEADERS: u8 = 4;
-
-const PADDED: u8 = 8;
-
-const PRIORITY: u8 = 0x20;
-
 fn kind_of_code(code: u8) -> Kind
     ensures { result ≡ kind_of code }
 {
     match code {
-        0 => Kind::Data,
-        1 => Kind::Headers,
-        2 => Kind::Priority,
-        3 => Kind::Reset,
-        4 => Kind::Settings,
-        5 => Kind::Push,
-        6 => Kind::Ping,
-        7 => Kind::GoAway,
-        8 => Kind::Window,
-        9 => Kind::Continuation,
+        types::DATA => Kind::Data,
+        types::HEADERS => Kind::Headers,
+        types::PRIORITY => Kind::Priority,
+        types::RST_STREAM => Kind::Reset,
+        types::SETTINGS => Kind::Settings,
+        types::PUSH_PROMISE => Kind::Push,
+        types::PING => Kind::Ping,
+        types::GOAWAY => Kind::GoAway,
+        types::WINDOW_UPDATE => Kind::Window,
+        types::CONTINUATION => Kind::Continuation,
         other => Kind::Unknown(other),
     }
 }
@@ -83,7 +71,7 @@ impl Header {
     pub(crate) fn frame_len(self) -> usize
         ensures { result ≡ 9 + self.size }
     {
-        9 + self.size as usize
+        HEAD_LEN + self.size as usize
     }
 
     fn has_flag(self, flag: u8) -> bool
@@ -166,7 +154,7 @@ impl Header {
     pub(crate) fn fault(self) -> Option<u32>
         ensures { result ≡ header_fault self }
     {
-        if self.size > LONGEST {
+        if self.size > LONGEST_PAYLOAD {
             return Some(FRAME_SIZE_ERROR);
         }
         if self.has_wrong_size() {
@@ -177,23 +165,4 @@ impl Header {
         }
         None
     }
-}
-
-/// The bytes of a frame.
-pub(crate) fn framed(
-    alloc: Global,
-    kind: u8,
-    flags: u8,
-    stream: u32,
-    payload: &[u8],
-) -> Result<Vec<u8>, AllocError>
-    requires { length payload.now ≤ 16_384 }
-    ensures { IfOk result (λ out. out.items ≡ framed kind flags stream payload.now) }
-{
-    let mut out = Vec::with_capacity(alloc, 9 + payload.len())?;
-    let size = (payload.len() as u32).to_be_bytes();
-    out.extend_from_slice(&[size[1], size[2], size[3], kind, flags])?;
-    out.extend_from_slice(stream.to_be_bytes().as_slice())?;
-    out.extend_from_slice(payload)?;
-    Ok(out)
 }

@@ -23,8 +23,10 @@
 
 pub mod codes;
 mod continuation;
+mod copy;
 mod data_frame;
 mod fault;
+pub mod flags;
 mod frame;
 mod goaway;
 mod header;
@@ -34,19 +36,22 @@ mod numbers;
 mod padding;
 mod ping;
 mod priority;
+pub mod protocol;
 mod push_promise;
 mod reader;
 mod rst_stream;
 mod settings;
 #[cfg(test)]
 mod tests;
+pub mod types;
 mod window_update;
 mod write;
 
+pub use copy::copy_into;
 pub use fault::FrameFault;
 pub use frame::{Frame, Setting, SettingList};
 pub use laws::{
     faults_stand, frames_in_any_cut, one_list_of_frames, padding_is_left_out, written_is_read,
 };
 pub use reader::{FrameReader, Step};
-pub use write::write_frame;
+pub use write::{copy_continuation, copy_frame, copy_headers, frame_len};

@@ -1,14 +1,12 @@
 //! PING: RFC 9113 section 6.7.
 
-ghost use Rattle.std.specs.Prelude.{◌≡◌, false, length, Some, IfOk};
+ghost use Rattle.std.specs.Prelude.{◌≡◌, false, length, Some};
 ghost use Rattle.h2_frames.specs.Headers.{has_wrong_size as wrong_size};
 ghost use Rattle.h2_frames.specs.Payloads.{frame_of};
-ghost use Rattle.h2_frames.specs.Spelling.{bit, framed as frame_bytes};
 ghost use Rattle.h2_frames.specs.declared.header.Kind.TheVariants as kind;
 
 use crate::frame::Frame;
-use crate::header::{Header, framed};
-use std::alloc::{AllocError, Global};
+use crate::header::Header;
 
 pub(crate) fn has_wrong_size(header: Header) -> bool
     ensures { result ≡ wrong_size kind.Ping header }
@@ -27,10 +25,4 @@ pub(crate) fn read(header: Header, payload: &[u8]) -> Frame
         payload[7],
     ];
     Frame::Ping(header.is_ack(), bytes)
-}
-
-pub(crate) fn write(alloc: Global, ack: bool, bytes: &[u8; 8]) -> Result<Vec<u8>, AllocError>
-    ensures { IfOk result (λ out. out.items ≡ frame_bytes 6 (bit 1 ack) 0 bytes.now) }
-{
-    framed(alloc, 6, u8::from(ack), 0, bytes.as_slice())
 }

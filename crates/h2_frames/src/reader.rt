@@ -4,11 +4,12 @@ ghost use Rattle.std.specs.Prelude.{◌≡◌, ◌+◌, ◌≤◌, ◌<◌, ◌^
 ghost use Rattle.h2_frames.specs.Headers.{header_of, header_fault, has_wrong_size};
 ghost use Rattle.h2_frames.specs.Payloads.{frame_of};
 ghost use Rattle.h2_frames.specs.Frames.{first, Unfinished};
-ghost use Rattle.h2_frames.specs.Reading.{Gives, Tells, Starts, Feeds};
+ghost use Rattle.h2_frames.specs.Reading.{GivesRead, Tells, Starts, Feeds};
 
 use crate::fault::FrameFault;
 use crate::frame::Frame;
 use crate::header::{Header, Kind};
+use crate::protocol::{HEAD_LEN, LONGEST_PAYLOAD};
 use crate::{
     continuation, data_frame, goaway, headers_frame, ping, priority, push_promise, rst_stream,
     settings, window_update,
@@ -30,7 +31,7 @@ pub enum Step {
 fn frame(alloc: Global, header: Header, payload: &[u8]) -> Result<Frame, FrameFault>
     requires whole { length payload.now ≡ header.size }
     requires sized { has_wrong_size header.kind header ≡ false }
-    ensures { Gives (λ f. f) result (frame_of header.kind header payload.now) }
+    ensures { GivesRead (λ f. f) result (frame_of header.kind header payload.now) }
 {
     match header.kind {
         Kind::Data => data_frame::read(alloc, header, payload),
@@ -101,7 +102,7 @@ fn start_of(kept: &[u8], bytes: &[u8]) -> Start
     ensures { Starts (kept.now ++ bytes.now) result }
 {
     let count = kept.len() + bytes.len();
-    if count < 9 {
+    if count < HEAD_LEN {
         return Start::Unfinished;
     }
     let header = header_across(kept, bytes);
@@ -122,7 +123,7 @@ fn whole(alloc: Global, header: Header, bytes: &[u8]) -> Result<Frame, FrameFaul
     requires len { length bytes.now ≡ 9 + header.size }
     ensures { Tells bytes.now result }
 {
-    let (_, payload) = bytes.split_at(9);
+    let (_, payload) = bytes.split_at(HEAD_LEN);
     frame(alloc, header, payload)
 }
 
@@ -178,7 +179,7 @@ impl FrameReader {
     pub fn new(alloc: Global) -> Result<FrameReader, AllocError>
         ensures { IfOk result (λ r. r ≡ []) }
     {
-        let kept = Vec::with_capacity(alloc, 16_393)?;
+        let kept = Vec::with_capacity(alloc, HEAD_LEN + LONGEST_PAYLOAD as usize)?;
         Ok(FrameReader { kept })
     }
 

@@ -11,8 +11,7 @@ use Rattle.h2_model.specs.Account.{Account}
 use Rattle.h2_model.specs.Windows.{increment, data_sent, window_from, connection_window, stream_window, held_data}
 use Rattle.h2_model.specs.Calls.{positive_part, sendable, control, unsent_bytes, waits, is_window}
 use Rattle.h2_model.specs.History.{frame_in, is_of}
-use Rattle.h2_model.specs.State.{seen, stream_of_log}
-use Rattle.h2_model.proofs.Lives.{found}
+use Rattle.h2_model.specs.State.{seen, stream_of_log, found}
 use Rattle.h2_laws_kept.specs.Kept.{Kept}
 use Rattle.h2_laws_kept.specs.StandsFor.{Holds}
 use Rattle.h2_laws_kept.proofs.Handing.{stream-found}

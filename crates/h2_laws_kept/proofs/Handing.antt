@@ -4,15 +4,15 @@ use Rattle.std.proofs.lemmas.List.Sums.{sum_by-cons, sum_by-append}
 use Rattle.h2_frames.specs.declared.frame.Frame.{Frame}
 use Rattle.h2_frames.specs.declared.frame.Frame.TheVariants as frame
 use Rattle.h2_model.specs.declared.stream.Stream.{Stream}
-use Rattle.h2_model.specs.Log.{Entry, Handed, violation}
+use Rattle.h2_model.specs.Log.{LogEntry, Handed, violation}
 use Rattle.h2_model.specs.Streams.{is_live, is_ended_here}
 use Rattle.h2_model.specs.Blocks.{open_block}
 use Rattle.h2_model.specs.Queue.{Waiting, is_block, entered}
 use Rattle.h2_model.specs.Account.{Account, is_headless}
 use Rattle.h2_model.specs.History.{Call, called, frame_in, noted, handed}
-use Rattle.h2_model.specs.State.{State, seen, live, stream_of_log}
+use Rattle.h2_model.specs.State.{State, seen, live, stream_of_log, found}
 use Rattle.h2_model.specs.Moves.{adjusted, unless_over, with_sent, handing, sending, resetting, holding, queueing, is_dropped, is_dropped_entry, kept_waiting, kept_held}
-use Rattle.h2_model.proofs.Lives.{found, found-live}
+use Rattle.h2_model.proofs.Lives.{found-live}
 use Rattle.h2_laws_log.proofs.Hand.{handed-is}
 use Rattle.h2_laws_log.specs.Feeding.{is_feed}
 use Rattle.h2_laws_log.proofs.Keeps.{keeps-called}
@@ -143,7 +143,7 @@ end-left n s e = omega (arith, over-left sent, whole e)
 
 -- The queues
 
-held-one : (e : Entry) (held : List Entry) → closing (frame_in e) ≡ 1
+held-one : (e : LogEntry) (held : List LogEntry) → closing (frame_in e) ≡ 1
     → closings_held held + length (held ++ e ∷ []) ≤ closings_held (held ++ e ∷ []) + length held
 held-one e held c = omega (
   arith,

@@ -1,24 +1,23 @@
 -- Frames are held for headless streams alone, and a head is one of an opened stream: whatever comes in and is called.
-use Rattle.std.proofs.Common.{◌≡◌, ℕ, Bool, true, false, not, ◌&&◌, ◌||◌, ◌==◌, List, [], ◌∷◌, ◌++◌, length, take, Option, Some, None, refl, sym, ◌∙◌, ap, subst, if◌then◌else◌, filter, nat_le, bytes_eq, All, eqb-true, true≢false}
+use Rattle.std.proofs.Common.{◌≡◌, ℕ, Bool, true, false, not, ◌&&◌, ◌||◌, ◌==◌, List, [], ◌∷◌, ◌++◌, length, Option, Some, None, refl, sym, ◌∙◌, ap, subst, if◌then◌else◌, filter, nat_le, All, eqb-true, true≢false}
 use borrow.Author.Tests.{not-true}
 use Rattle.std.specs.List.{list_any, cons_option}
 use Rattle.std.proofs.Math.Bool.{or-true}
 use Rattle.std.proofs.lemmas.List.Elements.{All-head, All-tail, All-nil, All-cons, All-append, All-filter, All-weaker}
-use Rattle.h2_frames.specs.Frames.{First, first, Unfinished, Whole, Faulty}
 use Rattle.h2_frames.specs.declared.frame.Frame.{Frame}
 use Rattle.h2_frames.specs.declared.frame.Frame.TheVariants as frame
 use Rattle.h2_model.specs.declared.answers.Event.{Event}
-use Rattle.h2_model.specs.Codes.{refused_stream, protocol_error}
-use Rattle.h2_model.specs.Log.{Entry, Log, Opened, Received, Block, Handed, Owed, Given, Reported, stream_of}
+use Rattle.h2_model.specs.Codes.{refused_stream}
+use Rattle.h2_model.specs.Log.{LogEntry, Log, Opened, Received, Block, Handed, Owed, Given, Reported, stream_of}
 use Rattle.h2_model.specs.Streams.{opening, opened, is_opened, is_block_of, has_head, live_streams}
 use Rattle.h2_model.specs.Blocks.{OpenBlock, whole_block}
 use Rattle.h2_model.specs.Queue.{is_block, whole_within}
 use Rattle.h2_model.specs.Account.{Account, is_headless}
 use Rattle.h2_model.specs.Violations.{violation_of}
 use Rattle.h2_model.specs.Duties.{owed_for, events_of}
-use Rattle.h2_model.specs.History.{frame_in, noted, hold, queue_with, handed, owing, owing_all, reporting, reporting_all, opened_by, with_opening, with_block, accepted, arrived, arrived_by, violated, preface, with_first, with_greeting, with_byte, with_bytes, is_violated, answered, called, headed, is_of, given, next_number, start, Open, Take}
+use Rattle.h2_model.specs.History.{frame_in, noted, hold, queue_with, handed, owing, owing_all, reporting, reporting_all, opened_by, with_opening, with_block, accepted, arrived, arrived_by, violated, answered, called, headed, is_of, given, next_number, start, Open, Take}
 use Rattle.h2_model.specs.Valid.{Valid, is_lost_entry}
-use Rattle.h2_laws_log.specs.Sound.{Sound, may_be_held}
+use Rattle.h2_laws_log.specs.Sound.{CallsSound, may_be_held}
 use Rattle.h2_laws_log.proofs.Lists.{number-swapped}
 use Rattle.h2_laws_log.proofs.Release.{after-same, all-held-still}
 use Rattle.h2_laws_log.proofs.Head.{headed-is, head-opened, head-headless}
@@ -27,14 +26,14 @@ use Rattle.h2_laws_kept.specs.StandsFor.{KnowsHeads}
 
 -- An entry that hands no head over
 
-still-opened : (e : Entry) (log : Log) (k : ℕ) → is_opened k log ≡ true → is_opened k (e ∷ log) ≡ true
+still-opened : (e : LogEntry) (log : Log) (k : ℕ) → is_opened k log ≡ true → is_opened k (e ∷ log) ≡ true
 still-opened e log k h = by (opening e)
   where
     by : (o : Option ℕ) → list_any (λ n. n == k) (cons_option o (opened log)) ≡ true
     by None = h
     by (Some n) = rw h (or-true (n == k))
 
-less-opened : (e : Entry) (log : Log) (k : ℕ) → is_opened k (e ∷ log) ≡ false → is_opened k log ≡ false
+less-opened : (e : LogEntry) (log : Log) (k : ℕ) → is_opened k (e ∷ log) ≡ false → is_opened k log ≡ false
 less-opened e log k h = by (is_opened k log) refl
   where
     by : (c : Bool) → is_opened k log ≡ c → is_opened k log ≡ false
@@ -47,13 +46,13 @@ still-headless true true p h q m e l = rw (m refl, e) l
 still-headless true false p h q m e l = absurd cc
 still-headless false o p h q m e l = absurd cc
 
-headless-on : (e : Entry) (a : Account) → ((k : ℕ) → is_block_of k e ≡ false) → (k : ℕ) → is_headless a k ≡ true
+headless-on : (e : LogEntry) (a : Account) → ((k : ℕ) → is_block_of k e ≡ false) → (k : ℕ) → is_headless a k ≡ true
     → is_headless (noted e a) k ≡ true
 unfolding noted
 headless-on e a n k l = still-headless a.client (is_opened k a.log) (is_opened k (e ∷ a.log)) (has_head k a.log)
     (is_block_of k e || has_head k a.log) (still-opened e a.log k) (ap (λ c. c || has_head k a.log) (n k)) l
 
-pub noted-heads : (e : Entry) (a : Account) → ((k : ℕ) → is_block_of k e ≡ false) → KnowsHeads a → KnowsHeads (noted e a)
+pub noted-heads : (e : LogEntry) (a : Account) → ((k : ℕ) → is_block_of k e ≡ false) → KnowsHeads a → KnowsHeads (noted e a)
 unfolding noted
 noted-heads e a n h = record {
   held = All-filter (λ x. not (is_lost_entry (e ∷ a.log) x)) (λ x. is_headless (noted e a) (stream_of (frame_in x)) ≡ true)
@@ -65,7 +64,7 @@ noted-heads e a n h = record {
 
 -- Frames that wait and that are held
 
-hold-heads : (e : Entry) (a : Account) → is_headless a (stream_of (frame_in e)) ≡ true → KnowsHeads a → KnowsHeads (hold e a)
+hold-heads : (e : LogEntry) (a : Account) → is_headless a (stream_of (frame_in e)) ≡ true → KnowsHeads a → KnowsHeads (hold e a)
 hold-heads e a l h = record {
   held = All-append (λ x. is_headless a (stream_of (frame_in x)) ≡ true) a.held (e ∷ []) h.held
       (All-cons (λ x. is_headless a (stream_of (frame_in x)) ≡ true) e [] l
@@ -149,41 +148,6 @@ arrived-heads f a h = by (violation_of a f)
     by None = accepted-heads f (with_opening f a) (opening-heads f a h)
     by (Some code) = violated-heads code a h
 
-pub aside-heads : (greeted : Bool) (rest : List ℕ) (a : Account) → KnowsHeads a
-    → KnowsHeads (record a { greeted = greeted; rest = rest })
-aside-heads greeted rest a h = record { held = h.held; opened = h.opened }
-
-first-heads : (x : First) (rest : List ℕ) (a : Account) → KnowsHeads a → KnowsHeads (with_first x rest a)
-first-heads Unfinished rest a h = aside-heads a.greeted rest a h
-first-heads (Whole f n) rest a h = arrived-heads f (record a { rest = [] }) (aside-heads a.greeted [] a h)
-first-heads (Faulty code) rest a h = violated-heads code a h
-
-greeting-heads : (rest : List ℕ) (a : Account) → KnowsHeads a → KnowsHeads (with_greeting rest a)
-greeting-heads rest a h = by (bytes_eq rest preface) (bytes_eq rest (take (length rest) preface))
-  where
-    by : (b c : Bool) → KnowsHeads
-        (if b then record a { greeted = true; rest = [] } else if c then record a {
-          rest = rest;
-        } else violated protocol_error a)
-    by true c = aside-heads true [] a h
-    by false true = aside-heads a.greeted rest a h
-    by false false = violated-heads protocol_error a h
-
-pub byte-heads : (b : ℕ) (a : Account) → KnowsHeads a → KnowsHeads (with_byte b a)
-unfolding with_byte
-byte-heads b a h = by (is_violated a) a.greeted
-  where
-    by : (x y : Bool) → KnowsHeads
-        (if x then a else if y then with_first (first (a.rest ++ b ∷ [])) (a.rest ++ b ∷ []) a else with_greeting
-        (a.rest ++ b ∷ []) a)
-    by true y = h
-    by false true = first-heads (first (a.rest ++ b ∷ [])) (a.rest ++ b ∷ []) a h
-    by false false = greeting-heads (a.rest ++ b ∷ []) a h
-
-pub bytes-heads : (bytes : List ℕ) (a : Account) → KnowsHeads a → KnowsHeads (with_bytes bytes a)
-bytes-heads [] a h = h
-bytes-heads (b ∷ bytes) a h = bytes-heads bytes (with_byte b a) (byte-heads b a h)
-
 pub answered-heads : (a : Account) → KnowsHeads a → KnowsHeads (answered a)
 answered-heads a h = record { held = h.held; opened = h.opened }
 
@@ -223,7 +187,7 @@ all-filtered {X = X} P Q p f (x ∷ xs) h = by (p x) refl (all-filtered P Q p f 
     by true e ih = All-cons Q x (filter p xs) (f x (All-head P x xs h) e) ih
     by false e ih = ih
 
-module _ (id : ℕ) (block : List ℕ) (last ends : Bool) (a : Account) (v : Valid a) (s : Sound a)
+module _ (id : ℕ) (block : List ℕ) (last ends : Bool) (a : Account) (v : Valid a) (s : CallsSound a)
     (o : is_opened id a.log ≡ true) (h : KnowsHeads a) where
   abbrev head : Frame
   head = frame.Headers id block last ends
@@ -249,7 +213,7 @@ module _ (id : ℕ) (block : List ℕ) (last ends : Bool) (a : Account) (v : Val
   opened-is : opened b.log ≡ opened a.log
   opened-is = head-opened id block last ends a v s.holds
 
-  still-lacks : (e : Entry) → is_headless a (stream_of (frame_in e)) ≡ true → not (is_of id e) ≡ true
+  still-lacks : (e : LogEntry) → is_headless a (stream_of (frame_in e)) ≡ true → not (is_of id e) ≡ true
       → is_headless b (stream_of (frame_in e)) ≡ true
   still-lacks e l n =
       lacks (stream_of (frame_in e))

@@ -6,7 +6,7 @@ use Rattle.std.proofs.lemmas.List.Elements.{All-head, All-tail, All-weaker}
 use Rattle.ext_msgs.specs.declared.lists.Field.{Field}
 use Rattle.h2_frames.specs.declared.frame.Frame.{Frame}
 use Rattle.h2_frames.specs.declared.frame.Frame.TheVariants as frame
-use Rattle.h2_model.specs.Log.{Entry, violation, stream_of}
+use Rattle.h2_model.specs.Log.{LogEntry, violation, stream_of}
 use Rattle.h2_model.specs.Streams.{opened, is_opened}
 use Rattle.h2_model.specs.Blocks.{open_block}
 use Rattle.h2_model.specs.Queue.{Waiting, entered}
@@ -194,7 +194,7 @@ heading-plain id block last ends s h = λ i. record (queueing f (sending f s)) {
     f : Frame
     f = frame.Headers id block last ends
 
-    none : (xs : List Entry) → All (λ e. is_of id e ≡ false) xs → filter (is_of id) xs ≡ []
+    none : (xs : List LogEntry) → All (λ e. is_of id e ≡ false) xs → filter (is_of id) xs ≡ []
     none [] g = refl
     none (x ∷ xs) g = rw (All-head (λ e. is_of id e ≡ false) x xs g) (none xs (All-tail (λ e. is_of id e ≡ false) x xs g))
 
@@ -207,7 +207,7 @@ none-held k a h id n =
     subst (All (λ e. is_of id e ≡ false)) (sym (ap (λ s. s.held) h.state ∙ seen-held a))
     (All-weaker (λ e. is_headless a (stream_of (frame_in e)) ≡ true) (λ e. is_of id e ≡ false) other a.held h.sound.heads.held)
   where
-    other : (e : Entry) → is_headless a (stream_of (frame_in e)) ≡ true → is_of id e ≡ false
+    other : (e : LogEntry) → is_headless a (stream_of (frame_in e)) ≡ true → is_of id e ≡ false
     other e l = by (stream_of (frame_in e) == id) refl
       where
         by : (c : Bool) → (stream_of (frame_in e) == id) ≡ c → (stream_of (frame_in e) == id) ≡ false
@@ -220,7 +220,7 @@ heading-spares id block last ends t s = refl
 
 -- The queues
 
-length-all-entered : (held : List Entry) (queue : List Waiting) → length (all_entered held queue) ≡ length held + length queue
+pub length-all-entered : (held : List LogEntry) (queue : List Waiting) → length (all_entered held queue) ≡ length held + length queue
 length-all-entered [] queue = omega arith
 length-all-entered (e ∷ held) queue = omega (arith, length-all-entered held (entered (frame_in e) queue), length-entered (frame_in e) queue)
 

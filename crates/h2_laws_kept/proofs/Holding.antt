@@ -15,7 +15,7 @@ use Rattle.h2_laws_log.specs.Rooms.{Counted}
 use Rattle.h2_model.specs.Known.{HasOpened}
 use Rattle.h2_laws_kept.specs.Kept.{Kept, IsSame, IsBeside, lacks_head}
 use Rattle.h2_laws_kept.specs.Rooms.{IsRoomy}
-use Rattle.h2_laws_kept.specs.StandsFor.{AreBelow, KnowsHeads, Lacks, Reads, Holds}
+use Rattle.h2_laws_kept.specs.StandsFor.{AreBelow, KnowsHeads, Lacks, ReadsInput, Holds}
 
 -- The account
 
@@ -44,7 +44,7 @@ state-sound k a h v = h.state ∙ ap (λ t. record (seen a) { table = t }) (h.ta
 
 -- a change that neither reads nor writes the decoder's table
 abbrev pub SparesTable : (State → State) → Type 0
-SparesTable move = (t : hpack.State) (s : State) → move (record s { table = t }) ≡ record (move s) { table = t }
+SparesTable move = (t : hpack.TableState) (s : State) → move (record s { table = t }) ≡ record (move s) { table = t }
 
 -- What is kept beside the state
 
@@ -103,7 +103,7 @@ beside k l s = record {
   entries = s.entries;
 }
 
-pub reads-kept : (k l : Kept) (a b : Account) → IsOutside k l → KeepsInput a b → Reads k a → Reads l b
+pub reads-kept : (k l : Kept) (a b : Account) → IsOutside k l → KeepsInput a b → ReadsInput k a → ReadsInput l b
 reads-kept k l a b s i h = record {
   greeted = i.greeted ∙ h.greeted ∙ ap (λ n. n == 24) (sym s.greeted);
   within = rw s.greeted h.within;

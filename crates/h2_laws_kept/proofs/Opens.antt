@@ -14,7 +14,7 @@ use Rattle.h2_model.specs.History.{called, Open, noted, next_number}
 use Rattle.h2_model.specs.State.{seen, live, live_among, streams, stream_of_log}
 use Rattle.h2_model.specs.Moves.{opening, new_stream}
 use Rattle.h2_laws_log.specs.Steps.{is_block_opened}
-use Rattle.h2_laws_log.proofs.Opens.{opens, opens-valid, above-unopened, streams-count, reverse-cons}
+use Rattle.h2_laws_log.proofs.Opens.{opens, opens-valid, above-unopened, streams-count, reverse-cons, greatest-all}
 use Rattle.h2_laws_log.proofs.Arrives.{opens-sound}
 use Rattle.h2_laws_log.specs.Becomes.{Becomes}
 use Rattle.h2_laws_log.proofs.Arrivals.{open-sound}
@@ -113,10 +113,6 @@ module _ (k : Kept) (a : Account) (h : Holds k a) (c : a.client ≡ true) where
 
 -- Live streams are below
 
-pub top-all : (top : ℕ) (ns : List ℕ) → greatest ns < top → All (λ m. m < top) ns
-top-all top [] l = All-nil (λ m. m < top)
-top-all top (m ∷ ns) l = All-cons (λ x. x < top) m ns (omega arith) (top-all top ns (omega arith))
-
 pub among-below : (top : ℕ) (ns : List ℕ) (a : Account) → All (λ m. m < top) ns → All (λ s. s.id < top) (live_among (reverse ns) a)
 unfolding live stream_of_log
 among-below top [] a h = All-nil (λ s. s.id < top)
@@ -136,7 +132,7 @@ seen-streams a = refl
 
 log-below : (a : Account) → greatest (opened a.log) < next_number a → All (λ s. s.id < next_number a) (streams a)
 unfolding streams
-log-below a l = among-below (next_number a) (opened a.log) a (top-all (next_number a) (opened a.log) l)
+log-below a l = among-below (next_number a) (opened a.log) a (greatest-all (next_number a) (opened a.log) l)
 
 pub streams-below : (k : Kept) (a : Account) → Holds k a → a.client ≡ true → (i : ℕ) (d : Stream) → i < length k.state.streams
     → (slice_index_or k.state.streams i d).id < k.numbers.next

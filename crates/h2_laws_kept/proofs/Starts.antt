@@ -11,7 +11,7 @@ use Rattle.h2_laws_log.proofs.RoomBegins.{start-counted}
 use Rattle.h2_model.specs.Known.{HasOpened}
 use Rattle.h2_laws_kept.specs.Kept.{Kept, IsNew}
 use Rattle.h2_laws_kept.specs.Rooms.{IsRoomy}
-use Rattle.h2_laws_kept.specs.StandsFor.{AreBelow, IsSound, Lacks, Reads, Holds}
+use Rattle.h2_laws_kept.specs.StandsFor.{AreBelow, IsSound, Lacks, ReadsInput, Holds}
 use Rattle.h2_laws_kept.proofs.Heading.{start-heads}
 use Rattle.h2_laws_kept.proofs.Holding.{tabled}
 
@@ -63,7 +63,7 @@ new-lacks client k n = record {
     by true false = refl
     by false y = refl
 
-new-reads : (client : Bool) (k : Kept) → IsNew client k → Reads k (start client)
+new-reads : (client : Bool) (k : Kept) → IsNew client k → ReadsInput k (start client)
 unfolding start
 new-reads client k n = record {
   greeted = by client ∙ ap (λ z. z == 24) (sym n.greeted);

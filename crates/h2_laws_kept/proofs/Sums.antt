@@ -7,7 +7,7 @@ use Rattle.h2_frames.specs.declared.frame.Frame.TheVariants as frame
 use Rattle.h2_model.specs.declared.stream.Stream.{Stream}
 use Rattle.h2_model.specs.Queue.{Waiting, entered, behind}
 use Rattle.h2_model.specs.Moves.{adjust, adjusted}
-use Rattle.h2_model.proofs.Lives.{found}
+use Rattle.h2_model.specs.State.{found}
 use Rattle.h2_laws_log.specs.Rooms.{one_if, closing, closings_waiting, credit, credits}
 use Rattle.h2_laws_log.proofs.RoomSums.{sum-entered, sum-behind}
 

@@ -25,7 +25,7 @@ pub record KnowsHeads (a : Account) : Type 0 where
 -- what holds of every account that calls lead to
 pub record IsSound (a : Account) : Type 0 where
   pub valid : Valid a
-  pub calls : calls.Sound a
+  pub calls : calls.CallsSound a
   pub block : is_block_opened a (open_block a.log) ≡ true
   pub counted : Counted a
   pub part : KeepsPart a
@@ -46,7 +46,7 @@ pub record Lacks (k : Kept) (a : Account) : Type 0 where
   pub count : k.client ≡ true → k.numbers.next ≡ next_number a
 
 -- the bytes of what isn't whole yet
-pub record Reads (k : Kept) (a : Account) : Type 0 where
+pub record ReadsInput (k : Kept) (a : Account) : Type 0 where
   pub greeted : a.greeted ≡ (k.greeted == 24)
   pub within : k.greeted ≤ 24
   pub preface : a.greeted ≡ false → a.rest ≡ take k.greeted preface
@@ -61,7 +61,7 @@ pub record Holds (k : Kept) (a : Account) : Type 0 where
   pub table : violation a.log ≡ None → k.state.table ≡ (seen a).table
   pub role : k.client ≡ a.client
   pub streams : Lacks k a
-  pub reads : violation a.log ≡ None → Reads k a
+  pub reads : violation a.log ≡ None → ReadsInput k a
   pub decodes : violation a.log ≡ None → k.fault ≡ None
   pub encodes : k.entries ≡ []
   pub room : IsRoomy k

@@ -2,14 +2,13 @@
 ghost use Rattle.ext_msgs.specs.declared.lists.Field.{Field};
 ghost use Rattle.h2_laws_log.specs.Calling.{heading, taking};
 ghost use Rattle.h2_frames.specs.declared.frame.Frame.TheVariants as frame;
-ghost use Rattle.h2_model.proofs.Lives.{found};
 ghost use Rattle.h2_model.specs.Account.{Account};
 ghost use Rattle.h2_model.specs.Calls.{MayHead, can_open, control, is_open_here, is_window, kept_streams, positive_part, sendable, unsent_bytes, waits};
 ghost use Rattle.h2_model.specs.History.{Finish, Head, Open, Reset, Send, Take, called, frame_in, is_of, next_number, start};
 ghost use Rattle.h2_model.specs.Log.{is_empty, stream_of};
 ghost use Rattle.h2_model.specs.Moves.{handing, opening, queueing, sending};
 ghost use Rattle.h2_model.specs.Queue.{bytes_of, control_bytes, flow, is_data, unsent};
-ghost use Rattle.h2_model.specs.State.{stream_of_log};
+ghost use Rattle.h2_model.specs.State.{stream_of_log, found};
 ghost use Rattle.h2_model.specs.Streams.{is_live};
 ghost use Rattle.h2_model.specs.Windows.{held_data, stream_window};
 ghost use Rattle.h2_model.specs.declared.stream.Stream.{Stream};

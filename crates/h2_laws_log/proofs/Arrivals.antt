@@ -1,4 +1,4 @@
--- `Sound` is kept by each frame and byte that arrives, and by `open`.
+-- `CallsSound` is kept by each frame and byte that arrives, and by `open`.
 use Rattle.std.proofs.Common.{◌≡◌, ℕ, ◌%◌, Bool, true, false, not, ◌&&◌, ◌==◌, List, [], ◌∷◌, ◌++◌, length, refl, sym, ◌∙◌, ap, if◌then◌else◌, All, Option, Some, None, nat_lt, nat_le, true≢false, eqb-true, ◌+◌, take, bytes_eq}
 use borrow.Author.Tests.{not-true, not-false}
 use Rattle.std.proofs.lemmas.List.Elements.{All-head, All-tail, All-cons, All-nil, All-append, All-weaker}
@@ -7,7 +7,7 @@ use Rattle.h2_frames.specs.declared.frame.Frame.{Frame}
 use Rattle.h2_frames.specs.declared.frame.Frame.TheVariants as frame
 use Rattle.h2_model.specs.declared.answers.Event.{Event}
 use Rattle.h2_model.specs.Codes.{refused_stream, protocol_error}
-use Rattle.h2_model.specs.Log.{Entry, Opened, Received, Block, Owed, Reported, stream_of}
+use Rattle.h2_model.specs.Log.{LogEntry, Opened, Received, Block, Owed, Reported, stream_of}
 use Rattle.h2_model.specs.Streams.{opened, is_opened, is_live, is_ended_by_peer, resets, has_head, greatest, live_streams}
 use Rattle.h2_model.specs.Blocks.{OpenBlock, open_block, whole_block}
 use Rattle.h2_model.specs.Account.{Account, is_headless}
@@ -16,21 +16,21 @@ use Rattle.h2_model.specs.StreamFaults.{stream_fault}
 use Rattle.h2_model.specs.Violations.{violation_of, may_open, is_on_unopened, is_first, is_settings, breaks_block, is_push}
 use Rattle.h2_model.specs.Duties.{update, updates, is_open_from_peer, reset_for, owed_for, events_by, events_of}
 use Rattle.h2_model.specs.History.{noted, hold, queue_with, owing, owing_all, reporting, reporting_all, opened_by, with_opening, with_block, accepted, arrived_by, arrived, violated, preface, with_first, with_greeting, with_byte, is_violated, called, Open, next_number}
-use Rattle.h2_laws_log.specs.Sound.{Sound, has_left, may_be_held}
+use Rattle.h2_laws_log.specs.Sound.{CallsSound, has_left, may_be_held}
 use Rattle.h2_laws_log.proofs.Lists.{same-number, both-left, both-right}
 use Rattle.h2_laws_log.proofs.Queues.{all-entered}
 use Rattle.h2_laws_log.proofs.Release.{held-still}
 use Rattle.h2_laws_log.proofs.Sounds.{noted-sound, fresh-left, still}
 use Rattle.h2_laws_log.proofs.Fail.{fail-sound}
 
-queued-sound : (f : Frame) (a : Account) → Sound a → Sound (queue_with f a)
+queued-sound : (f : Frame) (a : Account) → CallsSound a → CallsSound (queue_with f a)
 queued-sound f a s = record {
   left = all-entered (λ w. has_left w ≡ true) (λ w h. h) f a.waiting (fresh-left f) s.left;
   holds = s.holds;
   lost = s.lost;
 }
 
-held-sound : (e : Entry) (a : Account) → may_be_held a.log e ≡ true → Sound a → Sound (hold e a)
+held-sound : (e : LogEntry) (a : Account) → may_be_held a.log e ≡ true → CallsSound a → CallsSound (hold e a)
 held-sound e a m s = record {
   left = s.left;
   holds = All-append (λ x. may_be_held a.log x ≡ true) a.held (e ∷ []) s.holds
@@ -42,12 +42,12 @@ held-sound e a m s = record {
 abbrev Fits : Account → Frame → Type 0
 Fits a f = is_headless a (stream_of f) ≡ true → may_be_held a.log (Owed f) ≡ true
 
-owing-sound : (f : Frame) (a : Account) → Fits a f → Sound a → Sound (owing f a)
+owing-sound : (f : Frame) (a : Account) → Fits a f → CallsSound a → CallsSound (owing f a)
 unfolding owing
 owing-sound f a m s = by (is_headless a (stream_of f)) m
   where
     by : (c : Bool) → (c ≡ true → may_be_held a.log (Owed f) ≡ true)
-        → Sound (if c then hold (Owed f) a else queue_with f (noted (Owed f) a))
+        → CallsSound (if c then hold (Owed f) a else queue_with f (noted (Owed f) a))
     by true m = held-sound (Owed f) a (m refl) s
     by false m = queued-sound f (noted (Owed f) a) (noted-sound (Owed f) a refl s)
 
@@ -59,19 +59,19 @@ still-fits f g a m = by (is_headless a (stream_of f))
     by true = m
     by false = λ h. held-still a.log (Owed f ∷ a.log) (λ k r. still (resets k (Owed f)) r) (Owed g) (m h)
 
-owing-all-sound : (frames : List Frame) (a : Account) → All (Fits a) frames → Sound a → Sound (owing_all frames a)
+owing-all-sound : (frames : List Frame) (a : Account) → All (Fits a) frames → CallsSound a → CallsSound (owing_all frames a)
 owing-all-sound [] a m s = s
 owing-all-sound (f ∷ frames) a m s =
     owing-all-sound frames (owing f a)
     (All-weaker (Fits a) (Fits (owing f a)) (λ g. still-fits f g a) frames (All-tail (Fits a) f frames m))
     (owing-sound f a (All-head (Fits a) f frames m) s)
 
-reporting-all-sound : (events : List Event) (a : Account) → Sound a → Sound (reporting_all events a)
+reporting-all-sound : (events : List Event) (a : Account) → CallsSound a → CallsSound (reporting_all events a)
 reporting-all-sound [] a s = s
 reporting-all-sound (e ∷ events) a s =
     reporting-all-sound events (reporting e a) (told (noted (Reported e) a) (noted-sound (Reported e) a refl s))
   where
-    told : (b : Account) → Sound b → Sound (record b { unreported = b.unreported ++ e ∷ [] })
+    told : (b : Account) → CallsSound b → CallsSound (record b { unreported = b.unreported ++ e ∷ [] })
     told b t = record { left = t.left; holds = t.holds; lost = t.lost }
 
 reporting-all-headless : (events : List Event) (a : Account) (k : ℕ) → is_headless (reporting_all events a) k
@@ -80,7 +80,7 @@ unfolding noted
 reporting-all-headless [] a k = refl
 reporting-all-headless (e ∷ events) a k = reporting-all-headless events (reporting e a) k
 
-block-sound : (o : Option OpenBlock) (a : Account) → Sound a → Sound (with_block o a)
+block-sound : (o : Option OpenBlock) (a : Account) → CallsSound a → CallsSound (with_block o a)
 block-sound None a s = s
 block-sound (Some b) a s = noted-sound (Block b.stream b.bytes b.last) a refl s
 
@@ -168,7 +168,7 @@ owed-fits a z (frame.Data id bytes last size) =
     (updates-fit a z f (events_of a f) id last size) (reset-fits a z f (stream_fault a f))
 owed-fits a z f = reset-fits a z f (stream_fault a f)
 
-accepted-sound : (f : Frame) (a : Account) → is_opened 0 a.log ≡ false → Sound a → Sound (accepted f a)
+accepted-sound : (f : Frame) (a : Account) → is_opened 0 a.log ≡ false → CallsSound a → CallsSound (accepted f a)
 unfolding accepted
 accepted-sound f a z s = owing-all-sound (owed_for a f) (reporting_all (events_of a f) (came a z f)) (owed-fits a z f)
     (reporting-all-sound (events_of a f) (came a z f)
@@ -207,8 +207,8 @@ may-open-server a id m =
     not-true a.client (both-left (not a.client) ((id % 2) == 1)
     (both-left (not a.client && ((id % 2) == 1)) (nat_lt (greatest (opened a.log)) id) m))
 
-opened-by-sound : (known full : Bool) (id : ℕ) (a : Account) → (known ≡ false → may_open a id ≡ true) → Sound a
-    → Sound (opened_by known full id a)
+opened-by-sound : (known full : Bool) (id : ℕ) (a : Account) → (known ≡ false → may_open a id ≡ true) → CallsSound a
+    → CallsSound (opened_by known full id a)
 unfolding noted
 opened-by-sound true full id a m s = s
 opened-by-sound false false id a m s = noted-sound (Opened id) a refl s
@@ -243,7 +243,7 @@ opens a id part last ends e o =
     by false o h = h
     by true o h = absurd cc
 
-opening-sound : (f : Frame) (a : Account) → violation_of a f ≡ None → Sound a → Sound (with_opening f a)
+opening-sound : (f : Frame) (a : Account) → violation_of a f ≡ None → CallsSound a → CallsSound (with_opening f a)
 opening-sound (frame.Headers id part last ends) a e s =
     opened-by-sound (is_opened id a.log) (nat_le 256 (length (live_streams a.log))) id a (opens a id part last ends e) s
 opening-sound f a e s = s
@@ -254,29 +254,29 @@ opening-zero (frame.Headers id part last ends) a e z =
     opened-by-zero (is_opened id a.log) (nat_le 256 (length (live_streams a.log))) id a (opens a id part last ends e) z
 opening-zero f a e z = z
 
--- a frame that arrives keeps `Sound`
-pub arrived-sound : (f : Frame) (a : Account) → is_opened 0 a.log ≡ false → Sound a → Sound (arrived f a)
+-- a frame that arrives keeps `CallsSound`
+pub arrived-sound : (f : Frame) (a : Account) → is_opened 0 a.log ≡ false → CallsSound a → CallsSound (arrived f a)
 unfolding arrived
 arrived-sound f a z s = by (violation_of a f) refl
   where
-    by : (o : Option ℕ) → violation_of a f ≡ o → Sound (arrived_by o f a)
+    by : (o : Option ℕ) → violation_of a f ≡ o → CallsSound (arrived_by o f a)
     by None e = accepted-sound f (with_opening f a) (opening-zero f a e z) (opening-sound f a e s)
     by (Some code) e = fail-sound code a s
 
 -- A byte comes
 
-with-rest : (rest : List ℕ) (greeted : Bool) (a : Account) → Sound a → Sound (record a { rest = rest; greeted = greeted })
+with-rest : (rest : List ℕ) (greeted : Bool) (a : Account) → CallsSound a → CallsSound (record a { rest = rest; greeted = greeted })
 with-rest rest greeted a s = record { left = s.left; holds = s.holds; lost = s.lost }
 
-first-sound : (x : First) (rest : List ℕ) (a : Account) → is_opened 0 a.log ≡ false → Sound a → Sound (with_first x rest a)
+first-sound : (x : First) (rest : List ℕ) (a : Account) → is_opened 0 a.log ≡ false → CallsSound a → CallsSound (with_first x rest a)
 first-sound Unfinished rest a z s = with-rest rest a.greeted a s
 first-sound (Whole f n) rest a z s = arrived-sound f (record a { rest = [] }) z (with-rest [] a.greeted a s)
 first-sound (Faulty code) rest a z s = fail-sound code a s
 
-greeting-sound : (rest : List ℕ) (a : Account) → Sound a → Sound (with_greeting rest a)
+greeting-sound : (rest : List ℕ) (a : Account) → CallsSound a → CallsSound (with_greeting rest a)
 greeting-sound rest a s = by (bytes_eq rest preface) (bytes_eq rest (take (length rest) preface))
   where
-    by : (b c : Bool) → Sound
+    by : (b c : Bool) → CallsSound
         (if b then record a { greeted = true; rest = [] } else if c then record a {
           rest = rest;
         } else violated protocol_error a)
@@ -284,17 +284,17 @@ greeting-sound rest a s = by (bytes_eq rest preface) (bytes_eq rest (take (lengt
     by false true = with-rest rest a.greeted a s
     by false false = fail-sound protocol_error a s
 
-pub byte-sound : (b : ℕ) (a : Account) → is_opened 0 a.log ≡ false → Sound a → Sound (with_byte b a)
+pub byte-sound : (b : ℕ) (a : Account) → is_opened 0 a.log ≡ false → CallsSound a → CallsSound (with_byte b a)
 unfolding with_byte
 byte-sound b a z s = by (is_violated a) a.greeted
   where
-    by : (x y : Bool) → Sound
+    by : (x y : Bool) → CallsSound
         (if x then a else if y then with_first (first (a.rest ++ b ∷ [])) (a.rest ++ b ∷ []) a else with_greeting
         (a.rest ++ b ∷ []) a)
     by true y = s
     by false true = first-sound (first (a.rest ++ b ∷ [])) (a.rest ++ b ∷ []) a z s
     by false false = greeting-sound (a.rest ++ b ∷ []) a s
 
-pub open-sound : (a : Account) → Sound a → Sound (called Open a)
+pub open-sound : (a : Account) → CallsSound a → CallsSound (called Open a)
 unfolding called
 open-sound a s = noted-sound (Opened (next_number a)) a refl s

@@ -15,7 +15,7 @@ use Rattle.h2_model.specs.History.{noted, with_block, reporting_all, owing_all, 
 use Rattle.h2_model.specs.State.{State, seen}
 use Rattle.h2_model.specs.Moves.{receiving, decoding, telling_all}
 use Rattle.h2_model.specs.Valid.{Valid, is_of_opened}
-use Rattle.h2_laws_log.specs.Steps.{opening_by, opening_for, arriving, owing_frames, with_frame, is_block_opened, Sound}
+use Rattle.h2_laws_log.specs.Steps.{opening_by, opening_for, arriving, owing_frames, with_frame, is_block_opened, FramesSound}
 use Rattle.h2_laws_log.proofs.Entries.{nothing-more}
 use Rattle.std.proofs.lemmas.List.Sums.{sum_by-cons}
 use Rattle.h2_laws_log.proofs.Receives.{receives, receives-valid}
@@ -26,7 +26,7 @@ use Rattle.h2_laws_log.proofs.Brings.{events-opened, owed-may, owed-payable}
 
 -- What no violation says
 
-row : (x : Bool) (c : ℕ) (rest : Option ℕ) → (if x then Some c else rest) ≡ None → (x ≡ false) × (rest ≡ None)
+pub row : (x : Bool) (c : ℕ) (rest : Option ℕ) → (if x then Some c else rest) ≡ None → (x ≡ false) × (rest ≡ None)
 row true c rest e = absurd cc
 row false c rest e = (refl, e)
 
@@ -69,7 +69,7 @@ may-open-parts a id m = by a.client refl ((id % 2) == 1) (nat_lt (greatest (open
     by false e false x l m = absurd (true≢false (sym m))
     by true e o x l m = absurd (true≢false (sym m))
 
-one-of : (o m : Bool) → (not o && not m) ≡ false → o ≡ false → m ≡ true
+pub one-of : (o m : Bool) → (not o && not m) ≡ false → o ≡ false → m ≡ true
 one-of o true e z = refl
 one-of o false e z = absurd (true≢false (sym (rw z refl) ∙ e))
 
@@ -113,7 +113,7 @@ block-of-opened : (a : Account) (o : Option OpenBlock) → is_block_opened a o �
 block-of-opened a None e = refl
 block-of-opened a (Some b) e = or_right (b.stream == 0) (is_opened b.stream a.log) e
 
-continuation-ready : (id : ℕ) (part : List ℕ) (ends : Bool) (a : Account) → Sound a → Accepted a (frame.Continuation id part ends) → Ready (frame.Continuation id part ends) a a (seen a)
+continuation-ready : (id : ℕ) (part : List ℕ) (ends : Bool) (a : Account) → FramesSound a → Accepted a (frame.Continuation id part ends) → Ready (frame.Continuation id part ends) a a (seen a)
 continuation-ready id part ends a s x =
     let m : is_block_opened a (more_of part (open_block a.log)) ≡ true = more-opened a part (open_block a.log) s.block in
     record { state = refl; valid = s.valid; stream = refl; on_opened = refl; within = refl; whole = whole ends m; block = next ends m }
@@ -129,7 +129,7 @@ continuation-ready id part ends a s x =
 on-opened : (o z : Bool) → not o ≡ false → (z || o) ≡ true
 on-opened o z e = or_right z o (not-false o e)
 
-pub ready : (f : Frame) (a : Account) → Sound a → Accepted a f → Ready f a (with_opening f a) (opening_for (λ n. is_opened n a.log) f (seen a))
+pub ready : (f : Frame) (a : Account) → FramesSound a → Accepted a f → Ready f a (with_opening f a) (opening_for (λ n. is_opened n a.log) f (seen a))
 ready (frame.Headers id part last ends) a s x = headers-ready id part last ends a s.valid x
 ready (frame.Continuation id part ends) a s x = continuation-ready id part ends a s x
 ready (frame.Data id bytes last size) a s x =
@@ -177,7 +177,7 @@ noted-kept f b c d n k = record {
 stays-noted : (f : Frame) (b c : Account) → Noted f b c → (id : ℕ) → is_headless c id ≡ is_headless b id
 stays-noted f b c n id = rw (n.client, n.opened, n.heads id) refl
 
-same-block : (a b : Account) (o : Option OpenBlock) → opened b.log ≡ opened a.log → is_block_opened a o ≡ true → is_block_opened b o ≡ true
+pub same-block : (a b : Account) (o : Option OpenBlock) → opened b.log ≡ opened a.log → is_block_opened a o ≡ true → is_block_opened b o ≡ true
 same-block a b None e h = refl
 same-block a b (Some x) e h = rw e h
 
@@ -192,7 +192,7 @@ same-events a b (x ∷ es) e h = (rw e h.0, same-events a b es e h.1)
 -- what holds after a frame
 pub record Arrived (s : State) (b : Account) : Type 0 where
   pub state : seen b ≡ s
-  pub sound : Sound b
+  pub sound : FramesSound b
 
 pub accepts : (f : Frame) (a b : Account) (s : State) → Ready f a b s → Arrived (arriving (is_headless b) f (owed_for b f) (events_of b f) (whole_block b.log f) s) (accepted f b)
 unfolding accepted
@@ -223,7 +223,7 @@ accepts f a b s g =
     payable c n id = rw (n.owed id, n.received id) (owed-payable b f g.valid g.on_opened id)
 
 -- the law of a frame that comes in
-pub arrives : (f : Frame) (a : Account) → Sound a → violation_of a f ≡ None → Arrived (with_frame f a) (arrived f a)
+pub arrives : (f : Frame) (a : Account) → FramesSound a → violation_of a f ≡ None → Arrived (with_frame f a) (arrived f a)
 unfolding arrived
 arrives f a s e =
     let b : Account = with_opening f a in
@@ -231,7 +231,7 @@ arrives f a s e =
     subst (λ (o : Option ℕ). Arrived (with_frame f a) (arrived_by o f a)) (sym e) (accepts f a b _ g)
 
 -- the law of its opening
-pub begins : (f : Frame) (a : Account) → Sound a → violation_of a f ≡ None → (seen (with_opening f a) ≡ opening_for (λ id. is_opened id a.log) f (seen a)) × Valid (with_opening f a)
+pub begins : (f : Frame) (a : Account) → FramesSound a → violation_of a f ≡ None → (seen (with_opening f a) ≡ opening_for (λ id. is_opened id a.log) f (seen a)) × Valid (with_opening f a)
 begins f a s e = let g : Ready f a (with_opening f a) (opening_for (λ n. is_opened n a.log) f (seen a)) = ready f a s (no-violation a f e) in (g.state, g.valid)
 
 -- the law of a stream that is opened
@@ -243,11 +243,11 @@ block-same n a h = by (open_block a.log) h
     by None e = refl
     by (Some b) e = or_right (n == b.stream) (is_opened b.stream a.log) e
 
-pub opens-sound : (n : ℕ) (a : Account) → Sound a → greatest (opened a.log) < n → Sound (noted (Opened n) a)
+pub opens-sound : (n : ℕ) (a : Account) → FramesSound a → greatest (opened a.log) < n → FramesSound (noted (Opened n) a)
 opens-sound n a s l = record { valid = opens-valid n a s.valid l; block = block-same n a s.block }
 
 -- what is no entry leaves an account sound
-pub sound-aside : (greeted : Bool) (rest : List ℕ) (us : List Event) (a : Account) → Sound a → Sound (record a { greeted = greeted; rest = rest; unreported = us })
+pub sound-aside : (greeted : Bool) (rest : List ℕ) (us : List Event) (a : Account) → FramesSound a → FramesSound (record a { greeted = greeted; rest = rest; unreported = us })
 sound-aside greeted rest us a s = record { valid = valid-aside greeted rest us a s.valid; block = by (open_block a.log) s.block }
   where
     by : (o : Option OpenBlock) → is_block_opened a o ≡ true → is_block_opened (record a { greeted = greeted; rest = rest; unreported = us }) o ≡ true

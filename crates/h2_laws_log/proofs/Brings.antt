@@ -18,10 +18,10 @@ use Rattle.h2_model.specs.StreamFaults.{stream_fault, on_live, with_stream, upda
 use Rattle.h2_model.specs.Violations.{is_on_unopened}
 use Rattle.h2_model.specs.Duties.{update, is_open_from_peer, updates, reset_for, owed_for, reset_by_goaway, if_live, head_event, faultless_events, events_by, events_of}
 use Rattle.h2_model.specs.Valid.{Valid, is_of_opened}
-use Rattle.h2_laws_log.proofs.Drops.{eqb-turn}
 use Rattle.h2_laws_log.proofs.Lives.{no-zero}
 use Rattle.h2_laws_log.proofs.Reports.{AreOnOpened}
 use Rattle.h2_laws_log.proofs.Owes.{AllMayBeOwed, increments_of}
+use Rattle.h2_laws_log.proofs.Lists.{number-swapped}
 
 -- A live stream is opened
 
@@ -206,8 +206,8 @@ updates-payable a v id last size n j = by (j == 0) refl (id == j) refl (update-m
     by true z s e p q = subst (λ (k : ℕ). increments_of k (update 0 size a.log) + increments_of k (if is_open_from_peer a id last then update id size a.log else []) + total (increment_owed k) a.log ≤ size + total (data_received k) a.log)
         (sym (eqb-true j 0 z)) at-zero
     by false z true e p q = second _ _ (total (data_received j) a.log) (total (increment_owed j) a.log) (unreturned id a.log) size (ap (λ k. unreturned k a.log) (eqb-true id j e)) (v.returned j)
-        (rw (eqb-turn 0 j ∙ z) at p) (rw e at q)
-    by false z false e p q = neither _ _ (total (data_received j) a.log) (total (increment_owed j) a.log) (v.returned j) (rw (eqb-turn 0 j ∙ z) at p) (rw e at q)
+        (rw (number-swapped 0 j ∙ z) at p) (rw e at q)
+    by false z false e p q = neither _ _ (total (data_received j) a.log) (total (increment_owed j) a.log) (v.returned j) (rw (number-swapped 0 j ∙ z) at p) (rw e at q)
 
 data-payable : (a : Account) → Valid a → (id : ℕ) (bytes : List ℕ) (last : Bool) (size : ℕ) → is_opened id a.log ≡ true → (j : ℕ)
     → increments_of j (owed_for a (frame.Data id bytes last size)) + total (increment_owed j) a.log ≤ data_received j (Received (frame.Data id bytes last size)) + total (data_received j) a.log

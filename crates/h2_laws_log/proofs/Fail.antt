@@ -11,18 +11,19 @@ use Rattle.h2_model.specs.Windows.{held_data, data_sent, increment_given, connec
 use Rattle.h2_model.specs.History.{frame_in, violated, last_of_peer}
 use Rattle.h2_model.specs.State.{seen, streams}
 use Rattle.h2_model.specs.Valid.{Valid, is_lost, is_lost_entry, is_of_opened, is_update_owed}
-use Rattle.h2_laws_log.specs.Sound.{Sound, has_left, may_be_held}
+use Rattle.h2_laws_log.specs.Sound.{CallsSound, has_left, may_be_held}
 use Rattle.h2_laws_log.specs.Calling.{failing}
 use Rattle.h2_laws_log.proofs.Queues.{queued-cons, queued-append, queued-split, held-append, updates-append, updates-kept}
-use Rattle.h2_laws_log.proofs.Same.{Same, same-untouched, none-moved, window-same}
+use Rattle.h2_laws_log.proofs.Same.{Same, same-untouched, none-moved}
 use Rattle.h2_laws_log.proofs.Valids.{valid-moved}
 use Rattle.h2_laws_log.proofs.Sounds.{fresh-left}
+use Rattle.h2_laws_log.proofs.Receives.{window-stays}
 
 dropped-data : (n : ℕ) (queue : List Waiting) → held_data n (map (λ w. Handed w.frame) queue) ≡ queued n queue
 dropped-data n [] = refl
 dropped-data n (w ∷ queue) = omega (arith, queued-cons n w queue, dropped-data n queue)
 
-module _ (code : ℕ) (a : Account) (v : Valid a) (s : Sound a) (e : violation a.log ≡ None) where
+module _ (code : ℕ) (a : Account) (v : Valid a) (s : CallsSound a) (e : violation a.log ≡ None) where
   abbrev goaway : Frame
   goaway = frame.GoAway (last_of_peer a) code
 
@@ -58,7 +59,7 @@ module _ (code : ℕ) (a : Account) (v : Valid a) (s : Sound a) (e : violation a
   fail-seen =
       let s : streams (violated code a) ≡ streams a = none-moved a (violated code a) v refl (λ n p. same-after n) in
       let w : connection_window (violated code a) ≡ connection_window a =
-      window-same a (violated code a) refl (sent-after 0) in
+      window-stays a (violated code a) refl (sent-after 0) in
       λ i. record (seen a) {
         violation = Some code;
         window = w i;
@@ -95,7 +96,7 @@ module _ (code : ℕ) (a : Account) (v : Valid a) (s : Sound a) (e : violation a
           All-append P (filter (λ w. not (is_free w)) a.waiting) (fresh goaway ∷ [])
           (All-filter (λ w. not (is_free w)) P a.waiting h) (All-cons P (fresh goaway) [] p (All-nil P))
 
-pub fail-sound : (code : ℕ) (a : Account) → Sound a → Sound (violated code a)
+pub fail-sound : (code : ℕ) (a : Account) → CallsSound a → CallsSound (violated code a)
 fail-sound code a s =
     let goaway : Waiting = fresh (frame.GoAway (last_of_peer a) code) in
     record {

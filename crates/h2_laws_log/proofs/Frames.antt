@@ -8,7 +8,7 @@ use Rattle.h2_model.specs.Account.{Account}
 use Rattle.h2_model.specs.History.{arrived, violated, with_first, with_byte, with_bytes}
 use Rattle.h2_model.specs.Calls.{is_stopped, used}
 use Rattle.h2_model.proofs.Flows.{in-pieces}
-use Rattle.h2_laws_log.specs.Feeding.{ReadsFrames, Fails}
+use Rattle.h2_laws_log.specs.Feeding.{ReadsFrames, FailsWithin}
 use Rattle.h2_laws_log.proofs.Fronts.{unfinished-front, front-of-frame}
 use Rattle.h2_laws_log.proofs.Uses.{uses-nothing, uses-none, uses-one, uses-both}
 
@@ -129,7 +129,7 @@ frame-used n f bytes a r e p l =
 
 -- a fault stands at one of the bytes
 pub frame-fails : (bytes : List ℕ) (code : ℕ) (a : Account) → ReadsFrames a → first a.rest ≡ Unfinished
-    → first (a.rest ++ bytes) ≡ Faulty code → Fails code bytes a
+    → first (a.rest ++ bytes) ≡ Faulty code → FailsWithin code bytes a
 frame-fails [] code a r u e = let same : first (a.rest ++ []) ≡ first a.rest = ap first (append-nil a.rest) in absurd cc
 frame-fails (b ∷ bytes) code a r u e =
     by (first (a.rest ++ b ∷ [])) refl
@@ -138,7 +138,7 @@ frame-fails (b ∷ bytes) code a r u e =
     joined : (a.rest ++ b ∷ []) ++ bytes ≡ a.rest ++ b ∷ bytes
     joined = append_assoc a.rest (b ∷ []) bytes
 
-    waited : first (a.rest ++ b ∷ []) ≡ Unfinished → Fails code bytes (record a { rest = a.rest ++ b ∷ [] }) → Fails code (b ∷ bytes) a
+    waited : first (a.rest ++ b ∷ []) ≡ Unfinished → FailsWithin code bytes (record a { rest = a.rest ++ b ∷ [] }) → FailsWithin code (b ∷ bytes) a
     waited v l =
         let step : with_byte b a ≡ record a { rest = a.rest ++ b ∷ [] } = byte-told b Unfinished a r v in
         let all : used (b ∷ bytes) a ≡ 1 + used bytes (with_byte b a) = uses-one b bytes a (frames-go-on a r) in
@@ -153,7 +153,7 @@ frame-fails (b ∷ bytes) code a r u e =
           after = ap (with_bytes (take l.count bytes)) step ∙ l.after;
         }
 
-    by : (x : First) → first (a.rest ++ b ∷ []) ≡ x → (first (a.rest ++ b ∷ []) ≡ Unfinished → Fails code bytes (record a { rest = a.rest ++ b ∷ [] })) → Fails code (b ∷ bytes) a
+    by : (x : First) → first (a.rest ++ b ∷ []) ≡ x → (first (a.rest ++ b ∷ []) ≡ Unfinished → FailsWithin code bytes (record a { rest = a.rest ++ b ∷ [] })) → FailsWithin code (b ∷ bytes) a
     by Unfinished v h = waited v (h v)
     by (Whole f n) v h =
         let same : first ((a.rest ++ b ∷ []) ++ bytes) ≡ first (a.rest ++ b ∷ []) = first_stays (a.rest ++ b ∷ []) bytes (λ w. absurd cc) in

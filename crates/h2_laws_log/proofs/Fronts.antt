@@ -5,9 +5,6 @@ use Rattle.h2_frames.specs.Headers.{header_of}
 use Rattle.h2_frames.specs.Frames.{First, first, Unfinished, Whole, Faulty, whole_or_faulty}
 use Rattle.h2_frames.proofs.First.{Reach, within_header, refused, within_payload, to_the_end, reach, first_short, first_refused, first_waits, first_whole, first_stays}
 
-pub nothing-begun : first [] ≡ Unfinished
-nothing-begun = first_short [] (omega arith)
-
 -- where nothing is told of bytes, nothing is told of their front
 pub unfinished-front : (xs ys : List ℕ) → first (xs ++ ys) ≡ Unfinished → first xs ≡ Unfinished
 unfinished-front xs ys u = by (first xs) refl

@@ -18,9 +18,10 @@ use Rattle.h2_model.specs.Valid.{Valid, is_lost, is_of_opened}
 use Rattle.h2_model.proofs.Lives.{bound}
 use Rattle.h2_laws_log.proofs.Lists.{same-number, number-swapped, not-zero}
 use Rattle.h2_laws_log.proofs.Queues.{queued-cons}
-use Rattle.h2_laws_log.proofs.Same.{Same, same-untouched, live_by, live-is, one-moved, none-moved, window-same}
+use Rattle.h2_laws_log.proofs.Same.{Same, same-untouched, live_by, live-is, one-moved, none-moved}
 use Rattle.h2_laws_log.proofs.Valids.{valid-moved, others-untouched}
 use Rattle.h2_laws_log.proofs.Hand.{fixed-kept}
+use Rattle.h2_laws_log.proofs.Receives.{window-stays}
 
 -- DATA counts as before, waiting or given
 given-data : (n : ℕ) (f : Frame) → data_given n (Given f) ≡ data_in n f
@@ -96,7 +97,7 @@ module _ (w : Waiting) (queue : List Waiting) (a : Account) (v : Valid (record a
   others n p e = same-but n (other-room n w.frame (number-swapped (stream_of w.frame) n ∙ e))
 
   window-after : connection_window after ≡ connection_window before
-  window-after = window-same before after refl (sent-after 0)
+  window-after = window-stays before after refl (sent-after 0)
 
   pub gave-valid : Valid after
   gave-valid = valid-moved before after v (record {
@@ -197,7 +198,7 @@ begun-seen n w queue a v =
     let x : Account = record a { waiting = w ∷ queue } in
     let y : Account = record a { waiting = begun n w ∷ queue } in
     let s : streams y ≡ streams x = none-moved x y v refl (λ k p. begun-same n w queue a k) in
-    let t : connection_window y ≡ connection_window x = window-same x y refl ((begun-same n w queue a 0).sent) in
+    let t : connection_window y ≡ connection_window x = window-stays x y refl ((begun-same n w queue a 0).sent) in
     λ i. record (seen x) { window = t i; streams = s i; waiting = begun n w ∷ queue }
 
 pub begun-valid : (n : ℕ) (w : Waiting) (queue : List Waiting) (a : Account) → Valid (record a { waiting = w ∷ queue })

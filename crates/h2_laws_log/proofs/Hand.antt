@@ -4,7 +4,7 @@ use borrow.Author.Tests.{not-true}
 use Rattle.std.proofs.lemmas.List.Elements.{All-cons, All-nil, All-append, All-weaker}
 use Rattle.h2_frames.specs.declared.frame.Frame.{Frame}
 use Rattle.h2_frames.specs.declared.frame.Frame.TheVariants as frame
-use Rattle.h2_model.specs.Log.{Entry, Log, Handed, stream_of}
+use Rattle.h2_model.specs.Log.{LogEntry, Log, Handed, stream_of}
 use Rattle.h2_model.specs.Streams.{opened, is_opened, is_block_of, has_head, is_live, is_reset, is_ended_by_peer, is_ended_here}
 use Rattle.h2_model.specs.Queue.{Waiting, fresh, entered, queued, data_in, is_free, has_bytes, is_reset_frame, with_place, is_data, is_block}
 use Rattle.h2_model.specs.Account.{Account, is_headless}
@@ -18,20 +18,20 @@ use Rattle.h2_laws_log.proofs.Queues.{queued-entered, updates-entered, held-appe
 
 -- The log grows
 
-pub kept-waiting : (e : Entry) (log : Log) (queue : List Waiting) → ((k : ℕ) → is_reset k (e ∷ log) ≡ is_reset k log)
+pub kept-waiting : (e : LogEntry) (log : Log) (queue : List Waiting) → ((k : ℕ) → is_reset k (e ∷ log) ≡ is_reset k log)
     → All (λ w. is_lost log w ≡ false) queue → All (λ w. is_lost (e ∷ log) w ≡ false) queue
 kept-waiting e log queue r h =
     All-weaker (λ w. is_lost log w ≡ false) (λ w. is_lost (e ∷ log) w ≡ false)
     (λ w n. ap (λ x. is_free w && has_bytes w.frame && x) (r (stream_of w.frame)) ∙ n) queue h
 
-pub kept-entries : (e : Entry) (log : Log) (held : List Entry) → ((k : ℕ) → is_reset k (e ∷ log) ≡ is_reset k log)
+pub kept-entries : (e : LogEntry) (log : Log) (held : List LogEntry) → ((k : ℕ) → is_reset k (e ∷ log) ≡ is_reset k log)
     → All (λ x. is_lost_entry log x ≡ false) held → All (λ x. is_lost_entry (e ∷ log) x ≡ false) held
 kept-entries e log held r h =
     All-weaker (λ x. is_lost_entry log x ≡ false) (λ x. is_lost_entry (e ∷ log) x ≡ false)
     (λ x n. ap (λ y. has_bytes (frame_in x) && y) (r (stream_of (frame_in x))) ∙ n) held h
 
 -- an entry that resets no stream anew drops nothing
-pub noted-kept : (e : Entry) (a : Account) → All (λ w. is_lost a.log w ≡ false) a.waiting
+pub noted-kept : (e : LogEntry) (a : Account) → All (λ w. is_lost a.log w ≡ false) a.waiting
     → All (λ x. is_lost_entry a.log x ≡ false) a.held
     → ((k : ℕ) → is_reset k (e ∷ a.log) ≡ is_reset k a.log) → noted e a ≡ record a { log = e ∷ a.log }
 unfolding noted
@@ -41,7 +41,7 @@ noted-kept e a q h r = λ i. record a {
   held = drops-none (is_lost_entry (e ∷ a.log)) a.held (kept-entries e a.log a.held r h) i;
 }
 
-pub noted-plain : (e : Entry) (a : Account) → Valid a → ((k : ℕ) → is_reset k (e ∷ a.log) ≡ is_reset k a.log) → noted e a
+pub noted-plain : (e : LogEntry) (a : Account) → Valid a → ((k : ℕ) → is_reset k (e ∷ a.log) ≡ is_reset k a.log) → noted e a
     ≡ record a { log = e ∷ a.log }
 noted-plain e a v r = noted-kept e a v.waiting_kept v.held_kept r
 
@@ -96,7 +96,7 @@ noted-reset id code a v = λ i. record a {
 abbrev pub queue_by : Bool → Frame → List Waiting → List Waiting
 queue_by c f queue = if c then queue else entered f queue
 
-abbrev pub held_by : Bool → Frame → List Entry → List Entry
+abbrev pub held_by : Bool → Frame → List LogEntry → List LogEntry
 held_by c f held = if c then held ++ Handed f ∷ [] else held
 
 abbrev pub sunk : Bool → Frame → Account → Account
@@ -110,7 +110,7 @@ handed-is f a = by (is_headless a (stream_of f)) (noted (Handed f) a)
     by true b = refl
     by false b = refl
 
-pub sunk-data : (n : ℕ) (c : Bool) (f : Frame) (queue : List Waiting) (held : List Entry)
+pub sunk-data : (n : ℕ) (c : Bool) (f : Frame) (queue : List Waiting) (held : List LogEntry)
     → queued n (queue_by c f queue) + held_data n (held_by c f held) ≡ queued n queue + held_data n held + data_in n f
 sunk-data n true f queue held = rw (held-append n held (Handed f ∷ [])) (omega arith)
 sunk-data n false f queue held = rw (queued-entered n f queue) (omega arith)
@@ -126,17 +126,12 @@ pub all-queue-by : (P : Waiting → Type 0) → ((w : Waiting) → P w → P (wi
 all-queue-by P fixes true f queue p h = h
 all-queue-by P fixes false f queue p h = all-entered P fixes f queue p h
 
-pub all-held-by : (P : Entry → Type 0) → (c : Bool) (f : Frame) (held : List Entry) → P (Handed f) → All P held
+pub all-held-by : (P : LogEntry → Type 0) → (c : Bool) (f : Frame) (held : List LogEntry) → P (Handed f) → All P held
     → All P (held_by c f held)
 all-held-by P true f held p h = All-append P held (Handed f ∷ []) h (All-cons P (Handed f) [] p (All-nil P))
 all-held-by P false f held p h = h
 
 -- What a live stream is
-
-pub live-opened : (id : ℕ) (log : Log) → is_live id log ≡ true → is_opened id log ≡ true
-live-opened id log l =
-    both-left (is_opened id log) (not (is_reset id log))
-    (both-left (is_opened id log && not (is_reset id log)) (not (is_ended_by_peer id log && is_ended_here id log)) l)
 
 pub live-not-reset : (id : ℕ) (log : Log) → is_live id log ≡ true → is_reset id log ≡ false
 live-not-reset id log l =

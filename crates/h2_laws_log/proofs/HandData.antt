@@ -17,7 +17,8 @@ use Rattle.h2_laws_log.proofs.Lists.{same-number, number-swapped, less-more, and
 use Rattle.h2_laws_log.proofs.Queues.{other-data}
 use Rattle.h2_laws_log.proofs.Same.{Same, live_by, live-is, one-moved, window-less}
 use Rattle.h2_laws_log.proofs.Valids.{valid-moved, others-untouched}
-use Rattle.h2_laws_log.proofs.Hand.{handing-is, handed-plain, sunk, sunk-updates, queue_by, held_by, sunk-data, all-queue-by, all-held-by, live-opened, live-not-reset, opened-known, fixed-kept}
+use Rattle.h2_laws_log.proofs.Hand.{handing-is, handed-plain, sunk, sunk-updates, queue_by, held_by, sunk-data, all-queue-by, all-held-by, live-not-reset, opened-known, fixed-kept}
+use Rattle.h2_laws_log.proofs.Brings.{live-opened}
 
 -- the stream that ends here, or has DATA more
 own-sent : (id n : ℕ) (o r p h last : Bool) (heads : List (List Field)) (inc sent rec giv owe : ℕ)

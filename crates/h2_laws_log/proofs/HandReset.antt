@@ -4,7 +4,7 @@ use borrow.Author.Tests.{not-true}
 use Rattle.std.proofs.lemmas.List.Elements.{All-filter, filter_passes}
 use Rattle.h2_frames.specs.declared.frame.Frame.{Frame}
 use Rattle.h2_frames.specs.declared.frame.Frame.TheVariants as frame
-use Rattle.h2_model.specs.Log.{Entry, Handed, stream_of, total}
+use Rattle.h2_model.specs.Log.{LogEntry, Handed, stream_of, total}
 use Rattle.h2_model.specs.Streams.{is_opened, is_reset, is_ended_by_peer, is_ended_here}
 use Rattle.h2_model.specs.Queue.{Waiting, queued, is_free, has_bytes}
 use Rattle.h2_model.specs.Account.{Account, is_headless}
@@ -29,7 +29,7 @@ none-live : (o r p : Bool) → (o && not (true || r) && p) ≡ false
 none-live true r p = refl
 none-live false r p = refl
 
-other-entry : (n id : ℕ) → (n == 0) ≡ false → (n == id) ≡ false → (e : Entry) → (stream_of (frame_in e) == id) ≡ true
+other-entry : (n id : ℕ) → (n == 0) ≡ false → (n == id) ≡ false → (e : LogEntry) → (stream_of (frame_in e) == id) ≡ true
     → entry_data n e ≡ 0
 other-entry n id z o (Handed f) e = other-data n f z (other-number (stream_of f) n id e o)
 other-entry n id z o e i = refl
@@ -44,7 +44,7 @@ module _ (id code : ℕ) (c : Bool) (a : Account) (v : Valid a) where
   abbrev waiting : List Waiting
   waiting = kept_waiting id a.waiting
 
-  abbrev held : List Entry
+  abbrev held : List LogEntry
   held = kept_held id a.held
 
   abbrev after : Account

@@ -4,7 +4,7 @@ use Rattle.std.proofs.lemmas.List.Elements.{All-filter, All-weaker}
 use Rattle.ext_msgs.specs.declared.lists.Field.{Field}
 use Rattle.h2_frames.specs.declared.frame.Frame.{Frame}
 use Rattle.h2_frames.specs.declared.frame.Frame.TheVariants as frame
-use Rattle.h2_model.specs.Log.{Entry, Handed, stream_of, total}
+use Rattle.h2_model.specs.Log.{LogEntry, Handed, stream_of, total}
 use Rattle.h2_model.specs.Streams.{opened, is_opened, is_reset, is_ended_by_peer, is_ended_here, heads_got, has_head}
 use Rattle.h2_model.specs.Queue.{fresh, entered}
 use Rattle.h2_model.specs.Account.{Account, is_headless}
@@ -18,11 +18,12 @@ use Rattle.h2_laws_log.specs.Sound.{may_be_held}
 use Rattle.h2_laws_log.specs.Calling.{all_entered, heading}
 use Rattle.h2_laws_log.proofs.Lists.{same-number, number-swapped, and-not}
 use Rattle.h2_laws_log.proofs.Queues.{queued-entered, updates-entered, held-split, all-entered}
-use Rattle.h2_laws_log.proofs.Same.{Same, live_by, live-is, one-moved, window-same}
+use Rattle.h2_laws_log.proofs.Same.{Same, live_by, live-is, one-moved}
 use Rattle.h2_laws_log.proofs.Valids.{valid-moved, others-untouched}
 use Rattle.h2_laws_log.proofs.Hand.{noted-handed, fixed-kept, opened-known}
 use Rattle.h2_laws_log.proofs.HandData.{still-live}
 use Rattle.h2_laws_log.proofs.Release.{log_after, all-held-still, released-is, after-same, after-seen, after-valid, entered-data, entered-updates, all-all-entered, fresh-kept}
+use Rattle.h2_laws_log.proofs.Receives.{window-stays}
 
 own-ended : (id : ℕ) (o r p h last : Bool) (heads : List (List Field)) (inc sent rec giv owe : ℕ)
     → live_by id o r p (last || h) heads inc sent rec giv owe
@@ -40,10 +41,10 @@ module _ (id : ℕ) (block : List ℕ) (last ends : Bool) (a : Account) (v : Val
   abbrev head : Frame
   head = frame.Headers id block last ends
 
-  abbrev out : List Entry
+  abbrev out : List LogEntry
   out = filter (is_of id) a.held
 
-  abbrev rest : List Entry
+  abbrev rest : List LogEntry
   rest = filter (λ e. not (is_of id e)) a.held
 
   -- before the resets that were held are noted again
@@ -119,7 +120,7 @@ module _ (id : ℕ) (block : List ℕ) (last ends : Bool) (a : Account) (v : Val
   streams-after = one-moved a after id (with_block_sent last) v refl others own
 
   window-after : connection_window after ≡ connection_window a
-  window-after = window-same a after refl (sent-after 0)
+  window-after = window-stays a after refl (sent-after 0)
 
   seen-after : seen after ≡ heading id head (seen a)
   unfolding seen sending heading

@@ -4,7 +4,7 @@ use Rattle.h2_frames.specs.declared.frame.Frame.{Frame}
 use Rattle.h2_frames.specs.declared.frame.Frame.TheVariants as frame
 use Rattle.h2_model.specs.declared.answers.Event.{Event}
 use Rattle.h2_model.specs.Codes.{refused_stream}
-use Rattle.h2_model.specs.Log.{Entry, Opened, Received, Block, Handed, Owed, stream_of, is_empty}
+use Rattle.h2_model.specs.Log.{LogEntry, Opened, Received, Block, Handed, Owed, stream_of, is_empty}
 use Rattle.h2_model.specs.Streams.{is_opened, live_streams}
 use Rattle.h2_model.specs.Blocks.{OpenBlock, whole_block}
 use Rattle.h2_model.specs.Account.{Account, is_headless}
@@ -19,7 +19,7 @@ keeps-same a = record { greeted = refl; rest = refl }
 keeps-both : (a b c : Account) → KeepsInput a b → KeepsInput b c → KeepsInput a c
 keeps-both a b c x y = record { greeted = y.greeted ∙ x.greeted; rest = y.rest ∙ x.rest }
 
-keeps-noted : (e : Entry) (a : Account) → KeepsInput a (noted e a)
+keeps-noted : (e : LogEntry) (a : Account) → KeepsInput a (noted e a)
 unfolding noted
 keeps-noted e a = record { greeted = refl; rest = refl }
 
@@ -86,7 +86,7 @@ pub keeps-arrived : (f : Frame) (a : Account) → KeepsInput a (arrived f a)
 unfolding arrived
 keeps-arrived f a = keeps-arrived-by (violation_of a f) f a
 
-keeps-released : (held : List Entry) (a : Account) → KeepsInput a (released held a)
+keeps-released : (held : List LogEntry) (a : Account) → KeepsInput a (released held a)
 unfolding noted
 keeps-released [] a = keeps-same a
 keeps-released (Owed f ∷ held) a =

@@ -1,8 +1,8 @@
 -- One live stream by its parts, and how a change of one stream moves the list of them.
-use Rattle.std.proofs.Common.{◌≡◌, ℕ, Bool, true, false, List, [], ◌∷◌, Option, Some, None, refl, sym, ◌∙◌, ap, subst, if◌then◌else◌, ◌==◌, ◌&&◌, ◌||◌, not, arith}
+use Rattle.std.proofs.Common.{◌≡◌, ℕ, Bool, true, false, [], ◌∷◌, Option, Some, None, refl, sym, ◌∙◌, ap, subst, if◌then◌else◌, ◌==◌, ◌&&◌, ◌||◌, not}
 use Rattle.std.specs.Prelude.{ℤ}
 use Rattle.std.specs.List.{list_any, list_all}
-use Rattle.std.proofs.lemmas.Bool.{eqb-true, eq-eqb, ne_eqb}
+use Rattle.std.proofs.lemmas.Bool.{eqb-true, eq-eqb}
 use Rattle.h2_model.specs.declared.stream.Stream.{Stream}
 use Rattle.h2_model.specs.Log.{total}
 use Rattle.h2_model.specs.Streams.{opened, is_opened, is_live, is_reset, is_ended_by_peer, is_ended_here, heads_got}
@@ -12,7 +12,8 @@ use Rattle.h2_model.specs.Windows.{increment, data_sent, data_received, incremen
 use Rattle.h2_model.specs.State.{live, streams, stream_of_log}
 use Rattle.h2_model.specs.Moves.{adjust, adjusted, unless_over}
 use Rattle.h2_model.specs.Valid.{Descends, Untouched}
-use Rattle.h2_model.proofs.Lives.{bound, streams-moved, streams-same}
+use Rattle.h2_model.proofs.Lives.{bound, streams-moved, streams-same, not-opened}
+use Rattle.h2_laws_log.proofs.Same.{none-among}
 
 -- a stream, by: is it opened, is it reset, did the peer end it, did this end
 abbrev pub kept_by : Bool → Bool → Bool → Bool → Stream → Option Stream
@@ -72,19 +73,8 @@ same-untouched id a b s u = record {
   owed = s.sums.owed ∙ u.owed;
 }
 
--- number 0 is no stream
-zero-unopened : (ns : List ℕ) → Descends ns → list_any (λ n. n == 0) ns ≡ false
-zero-unopened [] d = refl
-zero-unopened (n ∷ ns) d =
-    let e : (n == 0) ≡ false = ne_eqb n 0 (λ z. omega (arith, z, d.0)) in
-    rw e (zero-unopened ns d.2)
-
 pub no-zero : (a : Account) → Descends (opened a.log) → is_opened 0 a.log ≡ false
-no-zero a d = zero-unopened (opened a.log) d
-
-pub unopened-dead : (id : ℕ) (a : Account) → is_opened id a.log ≡ false → live id a ≡ None
-unfolding live
-unopened-dead id a e = rw e refl
+no-zero a d = none-among (opened a.log) d
 
 adjust-id : (k id : ℕ) (f : Stream → Option Stream) (a : Account)
     → bound (live id a) (adjust k f) ≡ bound (live id a) (λ s. if id == k then f s else Some s)
@@ -109,7 +99,7 @@ stream-moved k f a b d o others this = streams-moved a b (adjust k f) o (λ id. 
     dead : (id : ℕ) → is_opened id a.log ≡ false → live id b ≡ bound (live id a) (adjust k f)
     dead id e =
         let e' : is_opened id b.log ≡ false = ap (λ ns. list_any (λ n. n == id) ns) o ∙ e in
-        rw (unopened-dead id a e, unopened-dead id b e') refl
+        rw (not-opened id a e, not-opened id b e') refl
 
     alive : (id : ℕ) (same : Bool) → (id == k) ≡ same → is_opened id a.log ≡ true → (id == 0) ≡ false → live id b ≡ bound (live id a) (adjust k f)
     alive id true s l z = subst (λ (n : ℕ). is_opened n a.log ≡ true → live n b ≡ bound (live n a) (adjust k f)) (sym (eqb-true id k s))
@@ -135,7 +125,7 @@ streams-stay a b d o others = streams-same a b o (λ id. by id (id == 0) refl)
     dead : (id : ℕ) → is_opened id a.log ≡ false → live id b ≡ live id a
     dead id e =
         let e' : is_opened id b.log ≡ false = ap (λ ns. list_any (λ n. n == id) ns) o ∙ e in
-        unopened-dead id b e' ∙ sym (unopened-dead id a e)
+        not-opened id b e' ∙ sym (not-opened id a e)
 
     by : (id : ℕ) (z : Bool) → (id == 0) ≡ z → live id b ≡ live id a
     by id true z = dead id (rw (eqb-true id 0 z) (no-zero a d))

@@ -8,7 +8,7 @@ use Rattle.std.proofs.lemmas.List.Sorted.{list_any-IsPermutation, IsPermutation-
 use Rattle.h2_frames.specs.declared.frame.Frame.{Frame}
 use Rattle.h2_frames.specs.declared.frame.Frame.TheVariants as frame
 use Rattle.h2_model.specs.Codes.{refused_stream}
-use Rattle.h2_model.specs.Log.{Entry, Log, Opened, stream_of, total}
+use Rattle.h2_model.specs.Log.{LogEntry, Log, Opened, stream_of, total}
 use Rattle.h2_model.specs.Streams.{opened, is_opened, greatest, is_live, live_streams, is_reset, is_ended_by_peer, is_ended_here}
 use Rattle.h2_model.specs.Blocks.{open_block}
 use Rattle.h2_model.specs.Account.{Account, is_headless}
@@ -18,11 +18,11 @@ use Rattle.h2_model.specs.State.{State, seen, live, live_among, streams, stream_
 use Rattle.h2_model.specs.Moves.{opening, new_stream, owing_frame}
 use Rattle.h2_model.specs.Valid.{Valid, Untouched, is_of_opened}
 use Rattle.h2_laws_log.specs.Steps.{opening_by}
-use Rattle.h2_laws_log.proofs.Drops.{eqb-turn}
 use Rattle.h2_laws_log.proofs.Lives.{Same, SameSums, same-live, same-untouched}
 use Rattle.h2_laws_log.proofs.Entries.{with_entry, noted-is, same-sums, nothing-more}
 use Rattle.h2_laws_log.proofs.Receives.{window-stays, receive-stays, unreturned-stays, with-parts}
 use Rattle.h2_laws_log.proofs.Owes.{owes, owes-valid, owing-stays}
+use Rattle.h2_laws_log.proofs.Lists.{number-swapped}
 
 -- The live streams and their numbers
 
@@ -62,7 +62,7 @@ streams-count a = sym (length-map (λ s. s.id) (streams a)) ∙ ap length (strea
 
 -- A new number
 
-greatest-all : (k : ℕ) (ns : List ℕ) → greatest ns < k → All (λ m. m < k) ns
+pub greatest-all : (k : ℕ) (ns : List ℕ) → greatest ns < k → All (λ m. m < k) ns
 greatest-all k [] l = All-nil (λ m. m < k)
 greatest-all k (n ∷ ns) l = All-cons (λ m. m < k) n ns (omega arith) (greatest-all k ns (omega arith))
 
@@ -88,7 +88,7 @@ opened-at k a = rw (eq-eqb k k refl) refl
 new-live : (k : ℕ) (a : Account) → Untouched k a → live k (with_entry (Opened k) a a.waiting a.held) ≡ Some (new_stream k)
 unfolding live stream_of_log
 new-live k a u =
-    let e : Entry = Opened k in
+    let e : LogEntry = Opened k in
     rw (
       eq-eqb k k refl,
       u.reset,
@@ -122,7 +122,7 @@ opens-streams k a v p u =
     let apart : list_any (λ n. n == k) ids ≡ false = sym (list_any-IsPermutation (λ n. n == k) (opened a.log) ids (IsPermutation-reverse (opened a.log))) ∙ u in
     ap (λ ns. live_among ns b) (reverse-cons k (opened a.log))
     ∙ filter_map-append (λ id. live id b) ids (k ∷ [])
-    ∙ ap (λ xs. xs ++ live_among (k ∷ []) b) (among-apart k a b ids apart (λ id n. same-live id a b (opens-others k a id (eqb-turn k id ∙ n))))
+    ∙ ap (λ xs. xs ++ live_among (k ∷ []) b) (among-apart k a b ids apart (λ id n. same-live id a b (opens-others k a id (number-swapped k id ∙ n))))
     ∙ ap (λ o. live_among ids a ++ cons_option o []) (new-live k a (v.untouched k p u))
 
 opens-entry : (k : ℕ) (a : Account) → Valid a → 0 < k → is_opened k a.log ≡ false → seen (with_entry (Opened k) a a.waiting a.held) ≡ opening k (seen a)
@@ -151,7 +151,7 @@ was-live-before k id log s l = subst (λ (x : Bool). ((x || is_opened id log) &&
 
 valid-entry : (k : ℕ) (a : Account) → Valid a → greatest (opened a.log) < k → Valid (with_entry (Opened k) a a.waiting a.held)
 valid-entry k a v l =
-    let e : Entry = Opened k in
+    let e : LogEntry = Opened k in
     let u : Untouched k a = v.untouched k (omega arith) (above-unopened k a l) in
     record {
       descends = (omega arith, greatest-all k (opened a.log) l, v.descends);

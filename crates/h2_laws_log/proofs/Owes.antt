@@ -7,7 +7,7 @@ use Rattle.std.proofs.lemmas.List.Elements.{All-push}
 use Rattle.h2_frames.specs.declared.frame.Frame.{Frame}
 use Rattle.h2_frames.specs.declared.frame.Frame.TheVariants as frame
 use Rattle.h2_model.specs.declared.stream.Stream.{Stream}
-use Rattle.h2_model.specs.Log.{Entry, Log, Owed, stream_of, total}
+use Rattle.h2_model.specs.Log.{LogEntry, Log, Owed, stream_of, total}
 use Rattle.h2_model.specs.Streams.{opened, is_reset, has_head}
 use Rattle.h2_model.specs.Blocks.{open_block}
 use Rattle.h2_model.specs.Queue.{Waiting, is_data, has_bytes, data_in, queued, entered, fresh, with_place}
@@ -19,11 +19,13 @@ use Rattle.h2_model.specs.State.{seen, stream_of_log}
 use Rattle.h2_model.specs.Moves.{charged, with_update, resetting, queueing, holding, owing_frame, kept_waiting}
 use Rattle.h2_model.specs.Valid.{Valid, is_of_opened, is_lost, is_lost_entry, is_update_owed, updates_in, update_of}
 use Rattle.h2_laws_log.specs.Steps.{reset_by, without_waiting, without_held, owing_frames}
-use Rattle.h2_laws_log.proofs.Drops.{eqb-turn, held-sum, entry_data, queued-entered, updates-entered, all-entered, updates-less}
+use Rattle.h2_laws_log.proofs.Drops.{held-sum, entry_data, updates-entered}
 use Rattle.h2_laws_log.proofs.Lives.{Same, same-stream, same-untouched, stream-moved, streams-stay, moved-on}
 use Rattle.h2_laws_log.proofs.Entries.{apart, with_entry, noted-is, same-entry, nothing-more, Fits, valid-noted}
 use Rattle.h2_laws_log.proofs.Receives.{window-stays, with-parts, quiet-parts}
 use Rattle.h2_laws_log.proofs.Reports.{reset-parts}
+use Rattle.h2_laws_log.proofs.Queues.{queued-entered, updates-kept, all-entered}
+use Rattle.h2_laws_log.proofs.Lists.{number-swapped}
 
 -- A frame that is no DATA brings no bytes
 
@@ -43,7 +45,7 @@ no-longer f id queue d = let z : data_in id f ≡ 0 = no-data f id d in queued-e
 
 -- On a stream whose head wasn't handed over
 
-held-push : (id : ℕ) (f : Frame) (held : List Entry) → held_data id (held ++ Owed f ∷ []) ≡ held_data id held
+held-push : (id : ℕ) (f : Frame) (held : List LogEntry) → held_data id (held ++ Owed f ∷ []) ≡ held_data id held
 held-push id f held = held-sum id (held ++ Owed f ∷ []) ∙ sum_by_push (entry_data id) held (Owed f) ∙ by (sum_by (entry_data id) held) (held_data id held) (held-sum id held)
   where
     by : (n m : ℕ) → m ≡ n → n + 0 ≡ m
@@ -97,7 +99,7 @@ owed-more k n log = sum_by-cons (increment_owed k) (Owed (frame.Window k n)) log
 
 -- a window update
 update-others : (k n : ℕ) (a : Account) (id : ℕ) → (id == 0) ≡ false → (id == k) ≡ false → Same id a (owed_account (frame.Window k n) a)
-update-others k n a id z s = same-entry id (Owed (frame.Window k n)) a (entered (frame.Window k n) a.waiting) a.held refl (apart id (Owed (frame.Window k n)) z (eqb-turn k id ∙ s))
+update-others k n a id z s = same-entry id (Owed (frame.Window k n)) a (entered (frame.Window k n) a.waiting) a.held refl (apart id (Owed (frame.Window k n)) z (number-swapped k id ∙ s))
     (no-longer (frame.Window k n) id a.waiting refl) refl
 
 update-sent : (id k n : ℕ) (a : Account) → data_sent id (owed_account (frame.Window k n) a) ≡ data_sent id a
@@ -106,7 +108,7 @@ update-sent id k n a = rw (nothing-more (data_given id) (Owed (frame.Window k n)
 owes-connection : (n : ℕ) (a : Account) → Valid a → seen (owed_account (frame.Window zero n) a) ≡ queueing (frame.Window zero n) (charged (frame.Window zero n) (seen a))
 unfolding seen charged
 owes-connection n a v =
-    let e : Entry = Owed (frame.Window zero n) in
+    let e : LogEntry = Owed (frame.Window zero n) in
     let b : Account = owed_account (frame.Window zero n) a in
     with-parts (seen b)
     (window-stays a b (nothing-more (increment 0) e a.log refl) (update-sent 0 zero n a))
@@ -117,7 +119,7 @@ owes-connection n a v =
 stream-with-update : (k n : ℕ) (a : Account) → with_update n (stream_of_log k a) ≡ Some (stream_of_log k (owed_account (frame.Window k n) a))
 unfolding stream_of_log
 stream-with-update k n a =
-    let e : Entry = Owed (frame.Window k n) in
+    let e : LogEntry = Owed (frame.Window k n) in
     let b : Account = owed_account (frame.Window k n) a in
     let s : Stream = stream_of_log k a in
     ap (λ t. Some t) (sym (same-stream (record s { unreturned = s.unreturned - n }) (stream_of_log k b) refl refl refl refl
@@ -129,7 +131,7 @@ owes-update : (id n : ℕ) (a : Account) → Valid a → seen (owed_account (fra
 unfolding seen charged
 owes-update id n a v =
     let k : ℕ = suc id in
-    let e : Entry = Owed (frame.Window k n) in
+    let e : LogEntry = Owed (frame.Window k n) in
     let b : Account = owed_account (frame.Window k n) a in
     let z : (k == 0) ≡ false = ne_eqb k 0 (λ z. omega (arith, z)) in
     with-parts (seen b)
@@ -218,7 +220,7 @@ owed-updates : (id : ℕ) (f : Frame) (a : Account) → Valid a
     → total (increment_given id) (noted (Owed f) a).log + (update_of id (fresh f) + updates_in id (noted (Owed f) a).waiting) ≤ total (increment_owed id) (noted (Owed f) a).log
 unfolding noted
 owed-updates id f a v =
-    let less : updates_in id (noted (Owed f) a).waiting ≤ updates_in id a.waiting = updates-less id (λ w. not (is_lost (Owed f ∷ a.log) w)) a.waiting in
+    let less : updates_in id (noted (Owed f) a).waiting ≤ updates_in id a.waiting = updates-kept id (λ w. not (is_lost (Owed f ∷ a.log) w)) a.waiting in
     rw (nothing-more (increment_given id) (Owed f) a.log refl, sum_by-cons (increment_owed id) (Owed f) a.log)
     (by (total (increment_given id) a.log) (increment_owed id (Owed f)) (updates_in id a.waiting) _ (total (increment_owed id) a.log) less (v.updates id))
   where

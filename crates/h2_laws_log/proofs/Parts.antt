@@ -7,10 +7,10 @@ use Rattle.h2_model.specs.Account.{Account}
 use Rattle.h2_model.specs.History.{Call, Feed, Open, Head, Send, Finish, Reset, Take, preface, start, violated, arrived, with_first, with_greeting, with_byte, with_bytes, called, account, is_violated}
 use Rattle.h2_laws_log.specs.Feeding.{KeepsPart, KeepsInput, ReadsPreface}
 use Rattle.h2_model.specs.Calls.{is_stopped}
-use Rattle.h2_laws_log.proofs.Fronts.{nothing-begun}
 use Rattle.h2_laws_log.proofs.Runs.{runs}
 use Rattle.h2_laws_log.proofs.Preface.{greets, greeting-is}
 use Rattle.h2_laws_log.proofs.Keeps.{keeps-arrived, keeps-called}
+use Rattle.h2_frames.proofs.Cuts.{nothing}
 
 kept : (a b : Account) → KeepsInput a b → KeepsPart a → KeepsPart b
 kept a b k p = record {
@@ -21,7 +21,7 @@ kept a b k p = record {
 
 part-none : (a : Account) → a.rest ≡ [] → KeepsPart a
 part-none a e = record {
-  frame = λ g. ap first e ∙ nothing-begun;
+  frame = λ g. ap first e ∙ nothing;
   preface = λ g. subst (λ rest. rest ≡ take (length rest) preface) (sym e) refl;
   short = λ g. subst (λ rest. length rest < 24) (sym e) (omega arith);
 }

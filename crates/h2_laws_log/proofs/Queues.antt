@@ -6,7 +6,7 @@ use Rattle.std.proofs.lemmas.List.Sums.{sum_by-cons, sum_by-append}
 use Rattle.std.proofs.lemmas.List.Filters.{sum_by-filter_both}
 use Rattle.h2_frames.specs.declared.frame.Frame.{Frame}
 use Rattle.h2_frames.specs.declared.frame.Frame.TheVariants as frame
-use Rattle.h2_model.specs.Log.{Entry, Handed, stream_of}
+use Rattle.h2_model.specs.Log.{LogEntry, Handed, stream_of}
 use Rattle.h2_model.specs.Queue.{Waiting, fresh, placed, all_placed, entered, queued, data_in, is_free, is_free_of, stays_behind, with_place, with_end_placed, is_reset_frame}
 use Rattle.h2_model.specs.Windows.{held_data}
 use Rattle.h2_model.specs.Valid.{update_of, updates_in}
@@ -23,7 +23,7 @@ queued-split n p queue = sum_by-filter_both p (λ w. not (p w)) (λ w. refl) (λ
 
 -- a sum over the queue, to which a frame's place is nothing
 
-sum-placed : (m : Waiting → ℕ) (x : Waiting) (queue : List Waiting) → sum_by m (placed x queue) ≡ m x + sum_by m queue
+pub sum-placed : (m : Waiting → ℕ) (x : Waiting) (queue : List Waiting) → sum_by m (placed x queue) ≡ m x + sum_by m queue
 sum-placed m x [] = sum_by-cons m x []
 sum-placed m x (w ∷ queue) =
     by (is_free x || not (is_free w) || list_any (stays_behind x.frame) (w ∷ queue)) (sum-placed m x queue)
@@ -33,7 +33,7 @@ sum-placed m x (w ∷ queue) =
     by true ih = omega (arith, ih, sum_by-cons m w (placed x queue), sum_by-cons m w queue)
     by false ih = sum_by-cons m x (w ∷ queue)
 
-sum-all-placed : (m : Waiting → ℕ) (xs queue : List Waiting) → sum_by m (all_placed xs queue) ≡ sum_by m xs + sum_by m queue
+pub sum-all-placed : (m : Waiting → ℕ) (xs queue : List Waiting) → sum_by m (all_placed xs queue) ≡ sum_by m xs + sum_by m queue
 sum-all-placed m [] queue = omega arith
 sum-all-placed m (x ∷ xs) queue = sum-all-placed m xs (placed x queue)
     ∙ rw (sum_by-cons m x xs, sum-placed m x queue) (omega arith)
@@ -51,7 +51,7 @@ sum-end-placed m same id queue =
     ∙ ap (λ k. k + sum_by m (filter (λ w. not (is_free_of id w)) queue)) (sum-fixed m same (filter (is_free_of id) queue))
     ∙ sum_by-filter_both (is_free_of id) (λ w. not (is_free_of id w)) (λ w. refl) m queue
 
-sum-entered : (m : Waiting → ℕ) → ((w : Waiting) → m (with_place w) ≡ m w) → (f : Frame) (queue : List Waiting)
+pub sum-entered : (m : Waiting → ℕ) → ((w : Waiting) → m (with_place w) ≡ m w) → (f : Frame) (queue : List Waiting)
     → sum_by m (entered f queue) ≡ m (fresh f) + sum_by m queue
 sum-entered m same f queue =
     sum-placed m (fresh f) (if is_reset_frame f then with_end_placed (stream_of f) queue else queue)
@@ -65,7 +65,7 @@ sum-entered m same f queue =
 pub queued-entered : (n : ℕ) (f : Frame) (queue : List Waiting) → queued n (entered f queue) ≡ data_in n f + queued n queue
 queued-entered n f queue = sum-entered (λ w. data_in n w.frame) (λ w. refl) f queue
 
-updates-sum : (n : ℕ) (queue : List Waiting) → updates_in n queue ≡ sum_by (update_of n) queue
+pub updates-sum : (n : ℕ) (queue : List Waiting) → updates_in n queue ≡ sum_by (update_of n) queue
 updates-sum n [] = refl
 updates-sum n (w ∷ queue) = ap (λ k. update_of n w + k) (updates-sum n queue) ∙ sym (sum_by-cons (update_of n) w queue)
 
@@ -125,19 +125,19 @@ all-entered P fixes f queue p h = all-placed-one P (fresh f) _ p (by (is_reset_f
 
 -- What is held
 
-abbrev pub entry_data : ℕ → Entry → ℕ
+abbrev pub entry_data : ℕ → LogEntry → ℕ
 entry_data n (Handed f) = data_in n f
 entry_data n e = 0
 
-pub held-cons : (n : ℕ) (e : Entry) (held : List Entry) → held_data n (e ∷ held) ≡ entry_data n e + held_data n held
+pub held-cons : (n : ℕ) (e : LogEntry) (held : List LogEntry) → held_data n (e ∷ held) ≡ entry_data n e + held_data n held
 held-cons n (Handed f) held = refl
 held-cons n e held = omega arith
 
-pub held-append : (n : ℕ) (xs ys : List Entry) → held_data n (xs ++ ys) ≡ held_data n xs + held_data n ys
+pub held-append : (n : ℕ) (xs ys : List LogEntry) → held_data n (xs ++ ys) ≡ held_data n xs + held_data n ys
 held-append n [] ys = omega arith
 held-append n (e ∷ xs) ys = rw (held-cons n e (xs ++ ys), held-cons n e xs, held-append n xs ys) (omega arith)
 
-pub held-split : (n : ℕ) (p : Entry → Bool) (held : List Entry)
+pub held-split : (n : ℕ) (p : LogEntry → Bool) (held : List LogEntry)
     → held_data n (filter p held) + held_data n (filter (λ e. not (p e)) held) ≡ held_data n held
 held-split n p [] = refl
 held-split n p (e ∷ held) = by (p e) (held-split n p held)
@@ -166,7 +166,7 @@ kept-queue n p none (w ∷ queue) = by (p w) refl (kept-queue n p none queue)
     by true e ih = rw (queued-cons n w queue, none w e) (omega (arith, ih))
     by false e ih = rw (queued-cons n w queue, queued-cons n w (filter (λ v. not (p v)) queue), ih) refl
 
-pub kept-held-data : (n : ℕ) (p : Entry → Bool) → ((e : Entry) → p e ≡ true → entry_data n e ≡ 0) → (held : List Entry)
+pub kept-held-data : (n : ℕ) (p : LogEntry → Bool) → ((e : LogEntry) → p e ≡ true → entry_data n e ≡ 0) → (held : List LogEntry)
     → held_data n (filter (λ e. not (p e)) held) ≡ held_data n held
 kept-held-data n p none [] = refl
 kept-held-data n p none (w ∷ held) = by (p w) refl (kept-held-data n p none held)

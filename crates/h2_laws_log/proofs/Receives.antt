@@ -6,7 +6,7 @@ use Rattle.std.proofs.lemmas.List.Sums.{sum_by-cons}
 use Rattle.h2_frames.specs.declared.frame.Frame.{Frame}
 use Rattle.h2_frames.specs.declared.frame.Frame.TheVariants as frame
 use Rattle.h2_model.specs.declared.stream.Stream.{Stream}
-use Rattle.h2_model.specs.Log.{Entry, Log, Received, stream_of, total}
+use Rattle.h2_model.specs.Log.{LogEntry, Log, Received, stream_of, total}
 use Rattle.h2_model.specs.Streams.{is_live, opening}
 use Rattle.h2_model.specs.Queue.{Waiting, is_data, queued}
 use Rattle.h2_model.specs.Account.{Account}
@@ -19,9 +19,9 @@ use Rattle.h2_model.specs.Moves.{receiving, with_data, with_increment, unless_ov
 use Rattle.h2_model.specs.Valid.{Valid, is_of_opened}
 use Rattle.h2_laws_log.specs.Steps.{about}
 use Rattle.h2_laws_log.proofs.Numbers.{widened, widened-stream}
-use Rattle.h2_laws_log.proofs.Drops.{eqb-turn}
 use Rattle.h2_laws_log.proofs.Lives.{Same, SameSums, same-stream, stream-moved, streams-stay, moved-over, moved-on}
 use Rattle.h2_laws_log.proofs.Entries.{Apart, apart, same-opened, with_entry, noted-is, same-entry, nothing-more, Fits, fits, valid-noted}
+use Rattle.h2_laws_log.proofs.Lists.{number-swapped}
 
 -- Windows
 
@@ -45,8 +45,8 @@ with-parts s {w} {w'} {r} {r'} {u} {u'} {x} {x'} p q m n =
     ∙ ap (λ y. record s { window = w'; receive = r'; unreturned = u'; streams = y }) n
 
 -- an entry changes no stream but the one of which it speaks
-pub others : (e : Entry) (a : Account) → opening e ≡ None → (id : ℕ) → (id == 0) ≡ false → (id == about e) ≡ false → Same id a (with_entry e a a.waiting a.held)
-others e a o id z s = same-entry id e a a.waiting a.held o (apart id e z (eqb-turn (about e) id ∙ s)) refl refl
+pub others : (e : LogEntry) (a : Account) → opening e ≡ None → (id : ℕ) → (id == 0) ≡ false → (id == about e) ≡ false → Same id a (with_entry e a a.waiting a.held)
+others e a o id z s = same-entry id e a a.waiting a.held o (apart id e z (number-swapped (about e) id ∙ s)) refl refl
 
 -- Frames that are no DATA and no WINDOW_UPDATE
 
@@ -56,7 +56,7 @@ calm (frame.Window n k) id e = absurd (true≢false e)
 calm _ id e = record { reset = refl; peer_ended = refl; here_ended = refl; heads = λ es. refl; increments = refl; sent = refl; received = refl; given = refl; owed = refl }
 
 -- an entry that says nothing of any stream
-pub quiet-parts : (s : State) (e : Entry) (a : Account) (w : List Waiting) → Valid a → opening e ≡ None → ((id : ℕ) → Apart id e) → ((id : ℕ) → queued id w ≡ queued id a.waiting)
+pub quiet-parts : (s : State) (e : LogEntry) (a : Account) (w : List Waiting) → Valid a → opening e ≡ None → ((id : ℕ) → Apart id e) → ((id : ℕ) → queued id w ≡ queued id a.waiting)
     → let b : Account = with_entry e a w a.held in
     record s { window = connection_window b; receive = receiving_window 0 b.log; unreturned = unreturned 0 b.log; streams = streams b }
     ≡ record s { window = connection_window a; receive = receiving_window 0 a.log; unreturned = unreturned 0 a.log; streams = streams a }
@@ -79,11 +79,11 @@ less-room g r r' size e = omega arith
 more-taken : (r r' o size : ℕ) → r' ≡ size + r → o ≤ r → r' - o ≡ r - o + size
 more-taken r r' o size e l = omega arith
 
-room-after : (id size : ℕ) (e : Entry) (log : Log) → increment_given id e ≡ 0 → total (data_received id) (e ∷ log) ≡ size + total (data_received id) log
+room-after : (id size : ℕ) (e : LogEntry) (log : Log) → increment_given id e ≡ 0 → total (data_received id) (e ∷ log) ≡ size + total (data_received id) log
     → receiving_window id (e ∷ log) ≡ receiving_window id log - size
 room-after id size e log g r = rw (nothing-more (increment_given id) e log g) (less-room (total (increment_given id) log) (total (data_received id) log) _ size r)
 
-taken-after : (id size : ℕ) (e : Entry) (log : Log) → increment_owed id e ≡ 0 → total (data_received id) (e ∷ log) ≡ size + total (data_received id) log
+taken-after : (id size : ℕ) (e : LogEntry) (log : Log) → increment_owed id e ≡ 0 → total (data_received id) (e ∷ log) ≡ size + total (data_received id) log
     → total (increment_owed id) log ≤ total (data_received id) log → unreturned id (e ∷ log) ≡ unreturned id log + size
 taken-after id size e log o r l = rw (nothing-more (increment_owed id) e log o) (more-taken (total (data_received id) log) _ (total (increment_owed id) log) size r l)
 
@@ -91,7 +91,7 @@ stream-with-data : (k : ℕ) (bytes : List ℕ) (last : Bool) (size : ℕ) (a : 
     → with_data last size (stream_of_log k a) ≡ unless_over (stream_of_log k (with_entry (Received (frame.Data k bytes last size)) a a.waiting a.held))
 unfolding stream_of_log
 stream-with-data k bytes last size a v =
-    let e : Entry = Received (frame.Data k bytes last size) in
+    let e : LogEntry = Received (frame.Data k bytes last size) in
     let b : Account = with_entry e a a.waiting a.held in
     let s : Stream = stream_of_log k a in
     let r : total (data_received k) (e ∷ a.log) ≡ size + total (data_received k) a.log = data-received k bytes last size a.log in
@@ -105,7 +105,7 @@ receives-data : (k : ℕ) (bytes : List ℕ) (last : Bool) (size : ℕ) (a : Acc
     → seen (with_entry (Received (frame.Data k bytes last size)) a a.waiting a.held) ≡ receiving (frame.Data k bytes last size) (seen a)
 unfolding seen receiving
 receives-data k bytes last size a v =
-    let e : Entry = Received (frame.Data k bytes last size) in
+    let e : LogEntry = Received (frame.Data k bytes last size) in
     let b : Account = with_entry e a a.waiting a.held in
     let r : total (data_received 0) (e ∷ a.log) ≡ size + total (data_received 0) a.log = sum_by-cons (data_received 0) e a.log in
     with-parts (seen b)
@@ -119,7 +119,7 @@ receives-data k bytes last size a v =
 receives-connection : (n : ℕ) (a : Account) → Valid a → seen (with_entry (Received (frame.Window zero n)) a a.waiting a.held) ≡ receiving (frame.Window zero n) (seen a)
 unfolding seen receiving connection_window window_from
 receives-connection n a v =
-    let e : Entry = Received (frame.Window zero n) in
+    let e : LogEntry = Received (frame.Window zero n) in
     let b : Account = with_entry e a a.waiting a.held in
     with-parts (seen b)
     (rw (nothing-more (data_given 0) e a.log refl, sum_by-cons (increment 0) e a.log) (widened 65535 n (total (increment 0) a.log) (data_sent 0 a)))
@@ -131,7 +131,7 @@ stream-with-increment : (k n : ℕ) (a : Account)
     → with_increment n (stream_of_log k a) ≡ Some (stream_of_log k (with_entry (Received (frame.Window k n)) a a.waiting a.held))
 unfolding stream_of_log
 stream-with-increment k n a =
-    let e : Entry = Received (frame.Window k n) in
+    let e : LogEntry = Received (frame.Window k n) in
     let b : Account = with_entry e a a.waiting a.held in
     let s : Stream = stream_of_log k a in
     let i : total (increment k) (e ∷ a.log) ≡ n + total (increment k) a.log = sum_by-cons (increment k) e a.log ∙ rw (eq-eqb k k refl) refl in
@@ -147,7 +147,7 @@ receives-increment : (id n : ℕ) (a : Account) → Valid a → seen (with_entry
 unfolding seen receiving
 receives-increment id n a v =
     let k : ℕ = suc id in
-    let e : Entry = Received (frame.Window k n) in
+    let e : LogEntry = Received (frame.Window k n) in
     let b : Account = with_entry e a a.waiting a.held in
     with-parts (seen b)
     (window-stays a b (nothing-more (increment 0) e a.log (rw (not-zero id) refl)) (rw (nothing-more (data_given 0) e a.log refl) refl))
@@ -172,7 +172,7 @@ receives f a v = ap seen (noted-is (Received f) a v) ∙ receives-entry f a v
 within : (g r r' size : ℕ) → r' ≡ size + r → r ≤ 65535 + g → nat_lt (65535 + g - r) size ≡ false → r' ≤ 65535 + g
 within g r r' size e l n = let m : size ≤ 65535 + g - r = ltb-false (65535 + g - r) size n in omega arith
 
-data-within : (id size : ℕ) (e : Entry) (log : Log) → increment_given id e ≡ 0 → total (data_received id) (e ∷ log) ≡ size + total (data_received id) log
+data-within : (id size : ℕ) (e : LogEntry) (log : Log) → increment_given id e ≡ 0 → total (data_received id) (e ∷ log) ≡ size + total (data_received id) log
     → total (data_received id) log ≤ 65535 + total (increment_given id) log → nat_lt (receiving_window id log) size ≡ false
     → total (data_received id) (e ∷ log) ≤ 65535 + total (increment_given id) (e ∷ log)
 data-within id size e log g r l n = rw (nothing-more (increment_given id) e log g) (within (total (increment_given id) log) (total (data_received id) log) _ size r l n)
@@ -180,7 +180,7 @@ data-within id size e log g r l n = rw (nothing-more (increment_given id) e log 
 data-fits : (k : ℕ) (bytes : List ℕ) (last : Bool) (size : ℕ) (a : Account) → Valid a
     → exceeds_window a (frame.Data k bytes last size) ≡ false → Fits (Received (frame.Data k bytes last size)) a
 data-fits k bytes last size a v x =
-    let e : Entry = Received (frame.Data k bytes last size) in
+    let e : LogEntry = Received (frame.Data k bytes last size) in
     let parts : (nat_lt (receiving_window 0 a.log) size ≡ false) × ((is_live k a.log && nat_lt (receiving_window k a.log) size) ≡ false) = or_parts _ _ x in
     let connection : total (data_received 0) (e ∷ a.log) ≤ 65535 + total (increment_given 0) (e ∷ a.log) =
     data-within 0 size e a.log refl (sum_by-cons (data_received 0) e a.log) v.received parts.0 in
@@ -203,13 +203,13 @@ data-fits k bytes last size a v x =
         → total (data_received id) (Received (frame.Data k bytes last size) ∷ a.log) ≤ 65535 + total (increment_given id) (Received (frame.Data k bytes last size) ∷ a.log)
     on id same s true z l c p = subst (λ (n : ℕ). total (data_received n) (Received (frame.Data k bytes last size) ∷ a.log) ≤ 65535 + total (increment_given n) (Received (frame.Data k bytes last size) ∷ a.log)) (sym (eqb-true id 0 z)) c
     on id true s false z l c p =
-        let e : Entry = Received (frame.Data k bytes last size) in
+        let e : LogEntry = Received (frame.Data k bytes last size) in
         let d : data_received id e ≡ size = rw (z, s) refl in
         let q : (is_live id a.log && nat_lt (receiving_window id a.log) size) ≡ false = subst (λ (m : ℕ). (is_live m a.log && nat_lt (receiving_window m a.log) size) ≡ false) (eqb-true k id s) p in
         let n : nat_lt (receiving_window id a.log) size ≡ false = second (is_live id a.log) _ l q in
         data-within id size e a.log refl (sum_by-cons (data_received id) e a.log ∙ ap (λ m. m + total (data_received id) a.log) d) (v.received_on id l) n
     on id false s false z l c p =
-        let e : Entry = Received (frame.Data k bytes last size) in
+        let e : LogEntry = Received (frame.Data k bytes last size) in
         let d : data_received id e ≡ 0 = rw (z, s) refl in
         rw (nothing-more (data_received id) e a.log d, nothing-more (increment_given id) e a.log refl) (v.received_on id l)
 

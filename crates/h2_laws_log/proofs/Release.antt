@@ -3,7 +3,7 @@ use Rattle.std.proofs.Common.{◌≡◌, ℕ, ◌+◌, Bool, true, false, not, �
 use Rattle.std.proofs.lemmas.List.Elements.{All-head, All-tail, All-weaker}
 use Rattle.h2_frames.specs.declared.frame.Frame.{Frame}
 use Rattle.h2_frames.specs.declared.frame.Frame.TheVariants as frame
-use Rattle.h2_model.specs.Log.{Entry, Log, Handed, Owed, stream_of, total}
+use Rattle.h2_model.specs.Log.{LogEntry, Log, Handed, Owed, stream_of, total}
 use Rattle.h2_model.specs.Streams.{is_opened, is_reset, is_ended_by_peer, is_ended_here}
 use Rattle.h2_model.specs.Queue.{Waiting, fresh, entered, queued, data_in, is_data, has_bytes, with_place}
 use Rattle.h2_model.specs.Account.{Account}
@@ -33,21 +33,21 @@ pub owed-again : (f : Frame) (log : Log) → may_be_held log (Owed f) ≡ true �
 owed-again (frame.Reset id code) log t k = reset-again k log id t
 owed-again f log t k = refl
 
-pub held-still : (log more : Log) → ((k : ℕ) → is_reset k log ≡ true → is_reset k more ≡ true) → (e : Entry)
+pub held-still : (log more : Log) → ((k : ℕ) → is_reset k log ≡ true → is_reset k more ≡ true) → (e : LogEntry)
     → may_be_held log e ≡ true → may_be_held more e ≡ true
 held-still log more r (Handed (frame.Data id bytes last size)) t = refl
 held-still log more r (Handed (frame.Reset id code)) t = refl
 held-still log more r (Owed (frame.Reset id code)) t = r id t
 held-still log more r e t = absurd cc
 
-pub all-held-still : (log more : Log) (held : List Entry) → ((k : ℕ) → is_reset k log ≡ true → is_reset k more ≡ true)
+pub all-held-still : (log more : Log) (held : List LogEntry) → ((k : ℕ) → is_reset k log ≡ true → is_reset k more ≡ true)
     → All (λ e. may_be_held log e ≡ true) held → All (λ e. may_be_held more e ≡ true) held
 all-held-still log more held r h =
     All-weaker (λ e. may_be_held log e ≡ true) (λ e. may_be_held more e ≡ true) (held-still log more r) held h
 
 -- The log once all were released
 
-abbrev pub log_after : List Entry → Log → Log
+abbrev pub log_after : List LogEntry → Log → Log
 log_after [] log = log
 log_after (Owed f ∷ held) log = log_after held (Owed f ∷ log)
 log_after (e ∷ held) log = log_after held log
@@ -55,7 +55,7 @@ log_after (e ∷ held) log = log_after held log
 -- what a reset that is owed once more doesn't change, the release doesn't
 pub after-same : {A : Type 0} (g : Log → A)
     → ((id code : ℕ) (log : Log) → is_reset id log ≡ true → g (Owed (frame.Reset id code) ∷ log) ≡ g log)
-    → (held : List Entry) (log : Log) → All (λ e. may_be_held log e ≡ true) held → g (log_after held log) ≡ g log
+    → (held : List LogEntry) (log : Log) → All (λ e. may_be_held log e ≡ true) held → g (log_after held log) ≡ g log
 after-same g same [] log h = refl
 after-same g same (Owed f ∷ held) log h =
     by f (All-head (λ e. may_be_held log e ≡ true) (Owed f) held h)
@@ -72,7 +72,7 @@ after-same g same (e ∷ held) log h = after-same g same held log (All-tail (λ 
 
 -- What enters isn't lost
 
-pub fresh-kept : (log : Log) (e : Entry) → is_lost_entry log e ≡ false → is_lost log (fresh (frame_in e)) ≡ false
+pub fresh-kept : (log : Log) (e : LogEntry) → is_lost_entry log e ≡ false → is_lost log (fresh (frame_in e)) ≡ false
 fresh-kept log e h = by (is_data (frame_in e)) (has_bytes (frame_in e)) (is_reset (stream_of (frame_in e)) log) h
   where
     by : (d b r : Bool) → (b && r) ≡ false → (d && true && b && r) ≡ false
@@ -80,7 +80,7 @@ fresh-kept log e h = by (is_data (frame_in e)) (has_bytes (frame_in e)) (is_rese
     by false b r x = refl
 
 pub all-all-entered : (P : Waiting → Type 0) → ((w : Waiting) → P w → P (with_place w))
-    → (held : List Entry) (queue : List Waiting)
+    → (held : List LogEntry) (queue : List Waiting)
     → All (λ e. P (fresh (frame_in e))) held → All P queue → All P (all_entered held queue)
 all-all-entered P fixes [] queue g h = h
 all-all-entered P fixes (e ∷ held) queue g h =
@@ -88,13 +88,13 @@ all-all-entered P fixes (e ∷ held) queue g h =
     (all-entered P fixes (frame_in e) queue (All-head (λ x. P (fresh (frame_in x))) e held g) h)
 
 -- and its DATA counted before
-data-held : (n : ℕ) (log : Log) (e : Entry) → may_be_held log e ≡ true → data_in n (frame_in e) ≡ entry_data n e
+data-held : (n : ℕ) (log : Log) (e : LogEntry) → may_be_held log e ≡ true → data_in n (frame_in e) ≡ entry_data n e
 data-held n log (Handed f) t = refl
 data-held n log (Owed (frame.Reset id code)) t = refl
 data-held n log (Owed f) t = absurd cc
 data-held n log e t = absurd cc
 
-pub entered-data : (n : ℕ) (log : Log) (held : List Entry) (queue : List Waiting) → All (λ e. may_be_held log e ≡ true) held
+pub entered-data : (n : ℕ) (log : Log) (held : List LogEntry) (queue : List Waiting) → All (λ e. may_be_held log e ≡ true) held
     → queued n (all_entered held queue) ≡ held_data n held + queued n queue
 entered-data n log [] queue h = omega arith
 entered-data n log (e ∷ held) queue h =
@@ -108,13 +108,13 @@ entered-data n log (e ∷ held) queue h =
     rw (held-cons n e held) (omega (arith, rest, one, same))
 
 -- no update of a window was held
-no-update : (n : ℕ) (log : Log) (e : Entry) → may_be_held log e ≡ true → update_of n (fresh (frame_in e)) ≡ 0
+no-update : (n : ℕ) (log : Log) (e : LogEntry) → may_be_held log e ≡ true → update_of n (fresh (frame_in e)) ≡ 0
 no-update n log (Handed (frame.Data id bytes last size)) t = refl
 no-update n log (Handed (frame.Reset id code)) t = refl
 no-update n log (Owed (frame.Reset id code)) t = refl
 no-update n log e t = absurd cc
 
-pub entered-updates : (n : ℕ) (log : Log) (held : List Entry) (queue : List Waiting)
+pub entered-updates : (n : ℕ) (log : Log) (held : List LogEntry) (queue : List Waiting)
     → All (λ e. may_be_held log e ≡ true) held
     → updates_in n (all_entered held queue) ≡ updates_in n queue
 entered-updates n log [] queue h = refl
@@ -126,13 +126,13 @@ entered-updates n log (e ∷ held) queue h =
 
 -- The release
 
-pub record Clean (held : List Entry) (a : Account) : Type 0 where
+pub record Clean (held : List LogEntry) (a : Account) : Type 0 where
   pub waiting : All (λ w. is_lost a.log w ≡ false) a.waiting
   pub others : All (λ e. is_lost_entry a.log e ≡ false) a.held
   pub kept : All (λ e. is_lost_entry a.log e ≡ false) held
   pub holds : All (λ e. may_be_held a.log e ≡ true) held
 
-pub released-is : (held : List Entry) (a : Account) → Clean held a
+pub released-is : (held : List LogEntry) (a : Account) → Clean held a
     → released held a ≡ record a { log = log_after held a.log; waiting = all_entered held a.waiting }
 released-is [] a c = refl
 released-is (Owed f ∷ held) a c =
@@ -205,13 +205,13 @@ again-valid id code a r v = valid-moved a (record a { log = Owed (frame.Reset id
   updates = v.updates;
 })
 
-pub after-seen : (held : List Entry) (a : Account) → All (λ e. may_be_held a.log e ≡ true) held
+pub after-seen : (held : List LogEntry) (a : Account) → All (λ e. may_be_held a.log e ≡ true) held
     → seen (record a { log = log_after held a.log }) ≡ seen a
 after-seen held a h =
     after-same (λ log. seen (record a { log = log }))
     (λ id code log r. again-seen id code (record a { log = log }) r) held a.log h
 
-pub after-valid : (held : List Entry) (a : Account) → All (λ e. may_be_held a.log e ≡ true) held → Valid a
+pub after-valid : (held : List LogEntry) (a : Account) → All (λ e. may_be_held a.log e ≡ true) held → Valid a
     → Valid (record a { log = log_after held a.log })
 after-valid [] a h v = v
 after-valid (Owed (frame.Reset id code) ∷ held) a h v =

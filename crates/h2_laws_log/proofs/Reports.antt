@@ -7,7 +7,7 @@ use Rattle.ext_msgs.specs.declared.lists.Field.{Field}
 use Rattle.h2_model.specs.declared.answers.Event.{Event}
 use Rattle.h2_model.specs.declared.answers.Event.TheVariants as event
 use Rattle.h2_model.specs.declared.stream.Stream.{Stream}
-use Rattle.h2_model.specs.Log.{Entry, Log, Block, Reported, stream_of_event, total}
+use Rattle.h2_model.specs.Log.{LogEntry, Log, Block, Reported, stream_of_event, total}
 use Rattle.h2_model.specs.Streams.{opened, is_ended_by_peer, heads_got, has_head, opening, resets}
 use Rattle.h2_model.specs.StreamFaults.{is_interim}
 use Rattle.h2_model.specs.Blocks.{OpenBlock, open_block, table_after}
@@ -20,13 +20,14 @@ use Rattle.h2_model.specs.Moves.{decoding, adjusted, with_end, with_head, unless
 use Rattle.h2_model.specs.Valid.{Valid, is_of_opened}
 use Rattle.h2_laws_log.specs.Steps.{about}
 use Rattle.h2_laws_log.proofs.Numbers.{given-back}
-use Rattle.h2_laws_log.proofs.Drops.{eqb-turn, queued-kept, held-kept, queued-less, held-less}
+use Rattle.h2_laws_log.proofs.Drops.{queued-kept, held-kept, queued-less, held-less}
 use Rattle.h2_laws_log.proofs.Lives.{SameSums, same-untouched, stream-moved, stream-marked, moved-over, moved-on, moved-off}
 use Rattle.h2_laws_log.proofs.Entries.{apart, Silent, with_entry, noted-is, same-entry, same-sums, same-opened, nothing-more, fits, valid-noted}
 use Rattle.h2_laws_log.proofs.Receives.{window-stays, receive-stays, unreturned-stays, with-parts, quiet-parts, others}
+use Rattle.h2_laws_log.proofs.Lists.{number-swapped}
 
 -- an entry that adds to no sum
-silent-parts : (s : State) (e : Entry) (a : Account) (x : List Stream) → ((id : ℕ) → Silent id e) → streams (with_entry e a a.waiting a.held) ≡ x
+silent-parts : (s : State) (e : LogEntry) (a : Account) (x : List Stream) → ((id : ℕ) → Silent id e) → streams (with_entry e a a.waiting a.held) ≡ x
     → let b : Account = with_entry e a a.waiting a.held in
     record s { window = connection_window b; receive = receiving_window 0 b.log; unreturned = unreturned 0 b.log; streams = streams b }
     ≡ record s { window = connection_window a; receive = receiving_window 0 a.log; unreturned = unreturned 0 a.log; streams = x }
@@ -44,7 +45,7 @@ block-ended : (k : ℕ) (bytes : List ℕ) (last : Bool) (a : Account)
     → with_end last (stream_of_log k a) ≡ unless_over (stream_of_log k (with_entry (Block k bytes last) a a.waiting a.held))
 unfolding stream_of_log
 block-ended k bytes last a =
-    let e : Entry = Block k bytes last in
+    let e : LogEntry = Block k bytes last in
     let b : Account = with_entry e a a.waiting a.held in
     let s : Stream = stream_of_log k a in
     let p : is_ended_by_peer k b.log ≡ (last || is_ended_by_peer k a.log) = rw (eq-eqb k k refl) refl in
@@ -53,7 +54,7 @@ block-ended k bytes last a =
 decodes : (b : OpenBlock) (a : Account) → Valid a → seen (with_entry (Block b.stream b.bytes b.last) a a.waiting a.held) ≡ decoding (Some b) (seen a)
 unfolding seen decoding table_after
 decodes o a v =
-    let e : Entry = Block o.stream o.bytes o.last in
+    let e : LogEntry = Block o.stream o.bytes o.last in
     let b : Account = with_entry e a a.waiting a.held in
     silent-parts (seen b) e a _ (block-silent o.stream o.bytes o.last)
     (stream-moved o.stream (with_end o.last) a b v.descends refl (others e a refl)
@@ -73,13 +74,13 @@ is_of_opened_block log (Some b) = is_of_opened log b.stream
 pub block-valid : (o : Option OpenBlock) (a : Account) → Valid a → is_of_opened_block a.log o ≡ true → Valid (with_block o a)
 block-valid None a v s = v
 block-valid (Some b) a v s =
-    let e : Entry = Block b.stream b.bytes b.last in
+    let e : LogEntry = Block b.stream b.bytes b.last in
     valid-noted e a v refl s (λ id. refl) (fits e a v (λ id. refl) (λ id. refl))
 
 -- A stream is reset
 
 -- its bytes that waited give their part of the connection's window back
-pub reset-parts : (s : State) (e : Entry) (k : ℕ) (a : Account) (w : List Waiting) → Valid a → opening e ≡ None → about e ≡ k → resets k e ≡ true → Silent 0 e
+pub reset-parts : (s : State) (e : LogEntry) (k : ℕ) (a : Account) (w : List Waiting) → Valid a → opening e ≡ None → about e ≡ k → resets k e ≡ true → Silent 0 e
     → ((id : ℕ) → queued id w ≡ queued id (kept_waiting k a.waiting))
     → let b : Account = with_entry e a w (kept_held k a.held) in
     record s { window = connection_window b; receive = receiving_window 0 b.log; unreturned = unreturned 0 b.log; streams = streams b }
@@ -95,7 +96,7 @@ reset-parts s e k a w v o ek r q qw =
     (rw (nothing-more (increment_owed 0) e a.log q.owed, nothing-more (data_received 0) e a.log q.received) refl)
     (stream-moved k (λ t. None) a b v.descends (same-opened e a.log o)
     (λ id z n.
-    let turned : (k == id) ≡ false = eqb-turn k id ∙ n in
+    let turned : (k == id) ≡ false = number-swapped k id ∙ n in
     same-entry id e a w (kept_held k a.held) o (apart id e z (rw ek turned)) (qw id ∙ queued-kept id k a.waiting z turned) (held-kept id k a.held z turned))
     (λ l. moved-off k a b (rw r refl)))
 
@@ -108,7 +109,7 @@ head-told : (k : ℕ) (fields : List Field) (last : Bool) (a : Account)
     → with_head fields (stream_of_log k a) ≡ Some (stream_of_log k (with_entry (Reported (event.Head k fields last)) a a.waiting a.held))
 unfolding stream_of_log
 head-told k fields last a =
-    let e : Entry = Reported (event.Head k fields last) in
+    let e : LogEntry = Reported (event.Head k fields last) in
     let b : Account = with_entry e a a.waiting a.held in
     let s : Stream = stream_of_log k a in
     let i : list_all is_interim (heads_got k b.log) ≡ (is_interim fields && list_all is_interim (heads_got k a.log)) = rw (eq-eqb k k refl) refl in
@@ -118,7 +119,7 @@ told-head : (k : ℕ) (fields : List Field) (last : Bool) (a : Account) → Vali
     → seen (with_entry (Reported (event.Head k fields last)) a a.waiting a.held) ≡ reported (event.Head k fields last) (seen a)
 unfolding seen reported
 told-head k fields last a v =
-    let e : Entry = Reported (event.Head k fields last) in
+    let e : LogEntry = Reported (event.Head k fields last) in
     let b : Account = with_entry e a a.waiting a.held in
     silent-parts (seen b) e a _ (event-silent (event.Head k fields last))
     (stream-moved k (with_head fields) a b v.descends refl (others e a refl)
@@ -128,7 +129,7 @@ told-reset : (k code : ℕ) (a : Account) → Valid a
     → seen (with_entry (Reported (event.Reset k code)) a (kept_waiting k a.waiting) (kept_held k a.held)) ≡ reported (event.Reset k code) (seen a)
 unfolding seen reported resetting
 told-reset k code a v =
-    let e : Entry = Reported (event.Reset k code) in
+    let e : LogEntry = Reported (event.Reset k code) in
     reset-parts (seen (with_entry e a (kept_waiting k a.waiting) (kept_held k a.held))) e k a (kept_waiting k a.waiting) v refl refl (eq-eqb k k refl) (event-silent (event.Reset k code) 0) (λ id. refl)
 
 -- what is kept after an event was noted

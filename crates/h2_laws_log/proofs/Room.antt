@@ -6,7 +6,7 @@ use Rattle.std.proofs.lemmas.List.Sums.{sum_by-cons}
 use Rattle.std.proofs.lemmas.List.Sorted.{sum_by-IsPermutation, IsPermutation-reverse}
 use Rattle.h2_frames.specs.declared.frame.Frame.{Frame}
 use Rattle.h2_frames.specs.declared.frame.Frame.TheVariants as frame
-use Rattle.h2_model.specs.Log.{Entry, Log, stream_of}
+use Rattle.h2_model.specs.Log.{LogEntry, Log, stream_of}
 use Rattle.h2_model.specs.Streams.{opened, is_opened, is_live, is_reset, is_ended_here}
 use Rattle.h2_model.specs.Queue.{Waiting}
 use Rattle.h2_model.specs.Account.{Account, is_headless}
@@ -68,7 +68,7 @@ closings-due a v c = omega (
       (All-weaker (λ e. is_of_opened a.log (stream_of (frame_in e)) ≡ true) (λ e. closing (frame_in e) ≤ sum_by (hit (frame_in e)) ids)
       (λ e. counts-somewhere (frame_in e) a.log) a.held v.held),
   sum-swapped (λ (w : Waiting) (id : ℕ). hit w.frame id) a.waiting ids,
-  sum-swapped (λ (e : Entry) (id : ℕ). hit (frame_in e) id) a.held ids,
+  sum-swapped (λ (e : LogEntry) (id : ℕ). hit (frame_in e) id) a.held ids,
   sum-both (λ id. sum_by (λ w. hit w.frame id) a.waiting) (λ id. sum_by (λ e. hit (frame_in e) id) a.held) ids,
   sum-within both (due a) ids (all-same ids),
   sum_by-cons (due a) 0 (opened a.log),

@@ -19,8 +19,8 @@ use Rattle.h2_model.specs.Violations.{violation_of, may_open}
 use Rattle.h2_model.specs.Duties.{update, updates, is_open_from_peer, reset_for, owed_for, events_by, events_of}
 use Rattle.h2_model.specs.History.{noted, hold, queue_with, owing, owing_all, reporting, reporting_all, opened_by, with_opening, with_block, accepted, arrived, arrived_by}
 use Rattle.h2_model.specs.Valid.{Valid}
-use Rattle.h2_laws_log.specs.Steps.{Sound}
-use Rattle.h2_laws_log.proofs.Arrives.{Accepted, no-violation, begins}
+use Rattle.h2_laws_log.specs.Steps.{FramesSound}
+use Rattle.h2_laws_log.proofs.Arrives.{Accepted, no-violation, begins, one-of}
 use Rattle.h2_laws_log.proofs.Lists.{same-number, not-zero, both-left, both-right}
 use Rattle.h2_laws_log.proofs.Hand.{live-not-reset}
 use Rattle.h2_laws_log.specs.Rooms.{end_of, reset_of, resets_due, Counted}
@@ -231,19 +231,14 @@ opened-by-counted true full id a v u o c = c
 opened-by-counted false false id a v u o c = noted-counted (Opened id) a c
 opened-by-counted false true id a v u o c = refused-counted id a v u (o refl) c
 
-unopened-opens : (o m : Bool) → (not o && not m) ≡ false → o ≡ false → m ≡ true
-unopened-opens o true e u = refl
-unopened-opens false false e u = absurd cc
-unopened-opens true false e u = absurd cc
-
 opening-counted : (f : Frame) (a : Account) → Valid a → violation_of a f ≡ None → Counted a → Counted (with_opening f a)
 opening-counted (frame.Headers id part last ends) a v e c =
     let x : Accepted a (frame.Headers id part last ends) = no-violation a (frame.Headers id part last ends) e in
     opened-by-counted (is_opened id a.log) (nat_le 256 (length (live_streams a.log))) id a v refl
-    (λ u. may-open-opens a id (unopened-opens (is_opened id a.log) (may_open a id) x.on_opened u)) c
+    (λ u. may-open-opens a id (one-of (is_opened id a.log) (may_open a id) x.on_opened u)) c
 opening-counted f a v e c = c
 
-pub arrived-counted : (f : Frame) (a : Account) → Sound a → Counted a → Counted (arrived f a)
+pub arrived-counted : (f : Frame) (a : Account) → FramesSound a → Counted a → Counted (arrived f a)
 unfolding arrived
 arrived-counted f a s c = by (violation_of a f) refl
   where

@@ -6,15 +6,14 @@ use Rattle.h2_frames.specs.declared.frame.Frame.{Frame}
 use Rattle.h2_frames.specs.declared.frame.Frame.TheVariants as frame
 use Rattle.h2_model.specs.Codes.{protocol_error}
 use Rattle.h2_model.specs.Log.{Opened, violation, is_empty}
-use Rattle.h2_model.specs.Streams.{opened}
-use Rattle.h2_model.specs.Blocks.{OpenBlock, open_block}
+use Rattle.h2_model.specs.Blocks.{open_block}
 use Rattle.h2_model.specs.Account.{Account}
 use Rattle.h2_model.specs.Violations.{violation_of}
 use Rattle.h2_model.specs.Calls.{Role, May}
 use Rattle.h2_model.specs.History.{Call, Feed, Open, Head, Send, Finish, Reset, Take, preface, violated, handed, headed, arrived, arrived_by, with_first, with_greeting, with_byte, with_bytes, called, next_number}
-use Rattle.h2_laws_log.specs.Steps.{is_block_opened, Sound as FramesSound}
-use Rattle.h2_laws_log.proofs.Arrives.{arrives, sound-aside}
-use Rattle.h2_laws_log.specs.Sound.{Sound}
+use Rattle.h2_laws_log.specs.Steps.{FramesSound}
+use Rattle.h2_laws_log.proofs.Arrives.{arrives, sound-aside, same-block}
+use Rattle.h2_laws_log.specs.Sound.{CallsSound}
 use Rattle.h2_laws_log.proofs.Arrivals.{byte-sound}
 use Rattle.h2_laws_log.proofs.Fail.{fail-valid}
 use Rattle.h2_laws_log.proofs.Same.{zero-unopened}
@@ -28,12 +27,7 @@ record Fed (a : Account) : Type 0 where
   frames : FramesSound a
   counted : Counted a
 
-same-block : (a b : Account) (o : Option OpenBlock) → opened b.log ≡ opened a.log → is_block_opened a o ≡ true
-    → is_block_opened b o ≡ true
-same-block a b None e h = refl
-same-block a b (Some x) e h = rw e h
-
-violated-fed : (code : ℕ) (a : Account) → Sound a → violation a.log ≡ None → Fed a → Fed (violated code a)
+violated-fed : (code : ℕ) (a : Account) → CallsSound a → violation a.log ≡ None → Fed a → Fed (violated code a)
 violated-fed code a t e k = record {
   frames = record {
     valid = fail-valid code a k.frames.valid t e;
@@ -42,7 +36,7 @@ violated-fed code a t e k = record {
   counted = violated-counted code a k.counted;
 }
 
-arrived-fed : (f : Frame) (a : Account) → Sound a → violation a.log ≡ None → Fed a → Fed (arrived f a)
+arrived-fed : (f : Frame) (a : Account) → CallsSound a → violation a.log ≡ None → Fed a → Fed (arrived f a)
 unfolding arrived
 arrived-fed f a t e k = by (violation_of a f) refl (arrived-counted f a k.frames k.counted)
   where
@@ -56,15 +50,15 @@ aside-fed greeted rest a k = record {
   counted = aside-counted greeted rest a k.counted;
 }
 
-aside-sound : (rest : List ℕ) (a : Account) → Sound a → Sound (record a { rest = rest })
+aside-sound : (rest : List ℕ) (a : Account) → CallsSound a → CallsSound (record a { rest = rest })
 aside-sound rest a t = record { left = t.left; holds = t.holds; lost = t.lost }
 
-first-fed : (x : First) (rest : List ℕ) (a : Account) → Sound a → violation a.log ≡ None → Fed a → Fed (with_first x rest a)
+first-fed : (x : First) (rest : List ℕ) (a : Account) → CallsSound a → violation a.log ≡ None → Fed a → Fed (with_first x rest a)
 first-fed Unfinished rest a t e k = aside-fed a.greeted rest a k
 first-fed (Whole f n) rest a t e k = arrived-fed f (record a { rest = [] }) (aside-sound [] a t) e (aside-fed a.greeted [] a k)
 first-fed (Faulty code) rest a t e k = violated-fed code a t e k
 
-greeting-fed : (rest : List ℕ) (a : Account) → Sound a → violation a.log ≡ None → Fed a → Fed (with_greeting rest a)
+greeting-fed : (rest : List ℕ) (a : Account) → CallsSound a → violation a.log ≡ None → Fed a → Fed (with_greeting rest a)
 greeting-fed rest a t e k = by (bytes_eq rest preface) (bytes_eq rest (take (length rest) preface))
   where
     by : (b c : Bool) → Fed
@@ -75,7 +69,7 @@ greeting-fed rest a t e k = by (bytes_eq rest preface) (bytes_eq rest (take (len
     by false true = aside-fed a.greeted rest a k
     by false false = violated-fed protocol_error a t e k
 
-byte-fed : (b : ℕ) (a : Account) → Sound a → Fed a → Fed (with_byte b a)
+byte-fed : (b : ℕ) (a : Account) → CallsSound a → Fed a → Fed (with_byte b a)
 unfolding with_byte
 byte-fed b a t k = by (violation a.log) refl a.greeted
   where
@@ -89,7 +83,7 @@ byte-fed b a t k = by (violation a.log) refl a.greeted
 -- what all calls need
 pub record Steady (a : Account) : Type 0 where
   pub frames : FramesSound a
-  pub sound : Sound a
+  pub sound : CallsSound a
   pub counted : Counted a
 
 pub byte-steady : (b : ℕ) (a : Account) → Steady a → Steady (with_byte b a)
@@ -102,7 +96,7 @@ bytes-steady [] a k = k
 bytes-steady (b ∷ bytes) a k = bytes-steady bytes (with_byte b a) (byte-steady b a k)
 
 -- each call
-pub called-counted : (r : Role) (call : Call) (a : Account) → FramesSound a → Sound a → May r call a → Counted a
+pub called-counted : (r : Role) (call : Call) (a : Account) → FramesSound a → CallsSound a → May r call a → Counted a
     → Counted (called call a)
 unfolding called
 called-counted r (Feed bytes) a s t m c =

@@ -5,7 +5,7 @@ use Rattle.std.proofs.lemmas.List.Sums.{sum_by-cons, sum_by-append}
 use Rattle.std.proofs.lemmas.List.Filters.{sum_by-filter_both}
 use Rattle.h2_frames.specs.declared.frame.Frame.{Frame}
 use Rattle.h2_frames.specs.declared.frame.Frame.TheVariants as frame
-use Rattle.h2_model.specs.Log.{Entry, Handed, Owed}
+use Rattle.h2_model.specs.Log.{LogEntry, Handed, Owed}
 use Rattle.h2_model.specs.Streams.{is_opened, is_live, is_reset, is_ended_here}
 use Rattle.h2_model.specs.Queue.{fresh, is_free, whole_within}
 use Rattle.h2_model.specs.Account.{Account}
@@ -14,12 +14,13 @@ use Rattle.h2_model.specs.History.{frame_in, noted, queue_with, handed, released
 use Rattle.h2_model.specs.Valid.{Valid}
 use Rattle.h2_laws_log.proofs.Drops.{sum-filter}
 use Rattle.h2_laws_log.proofs.Lists.{same-number, both-left, both-right, and-not}
-use Rattle.h2_laws_log.proofs.Hand.{handed-is, live-opened, live-not-reset}
+use Rattle.h2_laws_log.proofs.Hand.{handed-is, live-not-reset}
 use Rattle.h2_laws_log.proofs.Same.{zero-unopened}
 use Rattle.h2_laws_log.proofs.Take.{given-same}
 use Rattle.h2_laws_log.specs.Rooms.{one_if, ends_due, resets_due, Counted}
 use Rattle.h2_laws_log.proofs.RoomSums.{sum-behind}
 use Rattle.h2_laws_log.proofs.RoomGrows.{Grows, one, stays, grows-on, noted-grows, noted-queued, queued-grows, handed-grows, counted-grows, counted-stays, counted-end, counted-reset}
+use Rattle.h2_laws_log.proofs.Brings.{live-opened}
 
 -- A stream by its number
 
@@ -65,10 +66,10 @@ reset-counted id code a v l c =
 
 -- A block goes out, and what was held for it: together the same
 
-abbrev in_all : List Entry → (Frame → ℕ) → ℕ
+abbrev in_all : List LogEntry → (Frame → ℕ) → ℕ
 in_all held m = sum_by (λ e. m (frame_in e)) held
 
-released-grows : (held : List Entry) (a : Account) → Grows (in_all held) a (released held a)
+released-grows : (held : List LogEntry) (a : Account) → Grows (in_all held) a (released held a)
 released-grows [] a = stays a
 released-grows (Owed f ∷ held) a =
     let b : Account = queue_with f (noted (Owed f) a) in
@@ -139,5 +140,5 @@ pub aside-counted : (greeted : Bool) (rest : List ℕ) (a : Account) → Counted
 aside-counted greeted rest a c =
     record { ends = c.ends; resets = c.resets; connection_ends = c.connection_ends; connection_resets = c.connection_resets }
 
-pub noted-counted : (e : Entry) (a : Account) → Counted a → Counted (noted e a)
+pub noted-counted : (e : LogEntry) (a : Account) → Counted a → Counted (noted e a)
 noted-counted e a c = counted-stays a (noted e a) (noted-grows e a) c

@@ -3,7 +3,7 @@ use Rattle.std.proofs.Common.{◌≡◌, ℕ, ◌+◌, ◌≤◌, Bool, true, fa
 use Rattle.std.proofs.lemmas.List.Sums.{sum_by-cons, sum_by-append}
 use Rattle.h2_frames.specs.declared.frame.Frame.{Frame}
 use Rattle.h2_frames.specs.declared.frame.Frame.TheVariants as frame
-use Rattle.h2_model.specs.Log.{Entry, Handed, Owed, stream_of}
+use Rattle.h2_model.specs.Log.{LogEntry, Handed, Owed, stream_of}
 use Rattle.h2_model.specs.Streams.{is_reset, is_ended_here, resets, ends_from_here}
 use Rattle.h2_model.specs.Account.{Account, is_headless}
 use Rattle.h2_model.specs.Valid.{is_lost, is_lost_entry}
@@ -39,7 +39,7 @@ grows-on x y z a b c l g h = record {
 
 -- The steps
 
-pub noted-grows : (e : Entry) (a : Account) → Grows none a (noted e a)
+pub noted-grows : (e : LogEntry) (a : Account) → Grows none a (noted e a)
 unfolding noted
 noted-grows e a = record {
   most = λ m. omega (
@@ -58,7 +58,7 @@ queued-grows f a = record {
   ended = λ k e. e;
 }
 
-pub held-grows : (e : Entry) (a : Account) → Grows (one (frame_in e)) a (hold e a)
+pub held-grows : (e : LogEntry) (a : Account) → Grows (one (frame_in e)) a (hold e a)
 held-grows e a = record {
   most = λ m. omega (
     arith,
@@ -69,7 +69,7 @@ held-grows e a = record {
   ended = λ k r. r;
 }
 
-pub noted-queued : (e : Entry) (f : Frame) (a : Account) → Grows (one f) a (queue_with f (noted e a))
+pub noted-queued : (e : LogEntry) (f : Frame) (a : Account) → Grows (one f) a (queue_with f (noted e a))
 noted-queued e f a =
     grows-on none (one f) (one f) a (noted e a) (queue_with f (noted e a)) (λ m. omega arith) (noted-grows e a)
     (queued-grows f (noted e a))

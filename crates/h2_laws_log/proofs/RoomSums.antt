@@ -6,24 +6,10 @@ use Rattle.std.proofs.lemmas.List.Sums.{sum_by-cons}
 use Rattle.std.proofs.lemmas.List.Filters.{sum_by-filter_both}
 use Rattle.h2_frames.specs.declared.frame.Frame.{Frame}
 use Rattle.h2_model.specs.Log.{stream_of}
-use Rattle.h2_model.specs.Queue.{Waiting, fresh, placed, all_placed, entered, is_free, is_free_of, stays_behind, with_place, with_end_placed, is_reset_frame, behind}
+use Rattle.h2_model.specs.Queue.{Waiting, fresh, entered, is_free_of, with_place, with_end_placed, is_reset_frame, behind}
+use Rattle.h2_laws_log.proofs.Queues.{sum-placed, sum-all-placed}
 
 -- A frame enters the queue, where its place is nothing to a count by the frame
-
-sum-placed : (m : Waiting → ℕ) (x : Waiting) (queue : List Waiting) → sum_by m (placed x queue) ≡ m x + sum_by m queue
-sum-placed m x [] = sum_by-cons m x []
-sum-placed m x (w ∷ queue) =
-    by (is_free x || not (is_free w) || list_any (stays_behind x.frame) (w ∷ queue)) (sum-placed m x queue)
-  where
-    by : (c : Bool) → sum_by m (placed x queue) ≡ m x + sum_by m queue
-        → sum_by m (if c then w ∷ placed x queue else x ∷ w ∷ queue) ≡ m x + sum_by m (w ∷ queue)
-    by true ih = omega (arith, ih, sum_by-cons m w (placed x queue), sum_by-cons m w queue)
-    by false ih = sum_by-cons m x (w ∷ queue)
-
-sum-all-placed : (m : Waiting → ℕ) (xs queue : List Waiting) → sum_by m (all_placed xs queue) ≡ sum_by m xs + sum_by m queue
-sum-all-placed m [] queue = omega arith
-sum-all-placed m (x ∷ xs) queue = sum-all-placed m xs (placed x queue)
-    ∙ rw (sum_by-cons m x xs, sum-placed m x queue) (omega arith)
 
 sum-fixed : (m : Frame → ℕ) (xs : List Waiting) → sum_by (λ w. m w.frame) (map with_place xs) ≡ sum_by (λ w. m w.frame) xs
 sum-fixed m [] = refl

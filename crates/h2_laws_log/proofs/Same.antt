@@ -11,7 +11,7 @@ use Rattle.h2_model.specs.StreamFaults.{is_interim}
 use Rattle.h2_model.specs.State.{live, streams, stream_of_log}
 use Rattle.h2_model.specs.Moves.{adjust, adjusted}
 use Rattle.h2_model.specs.Valid.{Valid, Untouched, Descends}
-use Rattle.h2_model.proofs.Lives.{bound, streams-moved, streams-same}
+use Rattle.h2_model.proofs.Lives.{bound, streams-moved, streams-same, not-opened}
 use Rattle.h2_laws_log.proofs.Lists.{same-number, less-more, given-back}
 
 pub record Same (n : ℕ) (a b : Account) : Type 0 where
@@ -66,11 +66,6 @@ same-untouched n a b s u = record {
 
 -- The connection's window
 
-pub window-same : (a b : Account) → total (increment 0) b.log ≡ total (increment 0) a.log → data_sent 0 b ≡ data_sent 0 a
-    → connection_window b ≡ connection_window a
-unfolding connection_window window_from
-window-same a b i s = λ k. pos (65535 + i k) -ℤ pos (s k)
-
 pub window-less : (a b : Account) (n : ℕ) → total (increment 0) b.log ≡ total (increment 0) a.log → data_sent 0 b
     ≡ data_sent 0 a + n
     → connection_window b ≡ connection_window a -ℤ pos n
@@ -88,7 +83,7 @@ window-more a b n i s =
 
 -- Number 0 is no stream
 
-none-among : (ns : List ℕ) → Descends ns → list_any (λ n. n == 0) ns ≡ false
+pub none-among : (ns : List ℕ) → Descends ns → list_any (λ n. n == 0) ns ≡ false
 none-among [] d = refl
 none-among (m ∷ ns) d = by (m == 0) refl (none-among ns d.2)
   where
@@ -98,10 +93,6 @@ none-among (m ∷ ns) d = by (m == 0) refl (none-among ns d.2)
 
 pub zero-unopened : (a : Account) → Valid a → is_opened 0 a.log ≡ false
 zero-unopened a v = none-among (opened a.log) v.descends
-
-pub unopened-live : (n : ℕ) (a : Account) → is_opened n a.log ≡ false → live n a ≡ None
-unfolding live
-unopened-live n a e = rw e refl
 
 -- The stream that changes, and the others
 
@@ -134,7 +125,7 @@ one-moved a b id g v o s own = streams-moved a b (adjust id g) o λ n. by n (n =
     by n true e z k = subst (λ m. live m b ≡ bound (live m a) (adjust id g)) (sym (eqb-true n id e)) own
     by n false e false k = same-live n a b (s n (grind (arith, k)) e) ∙ other-live n id g a e
     by n false e true k = subst (λ m. live m b ≡ bound (live m a) (adjust id g)) (sym (eqb-true n 0 k))
-        (rw (unopened-live 0 a (zero-unopened a v)) (unopened-live 0 b (ap (list_any (λ m. m == 0)) o ∙ zero-unopened a v)))
+        (rw (not-opened 0 a (zero-unopened a v)) (not-opened 0 b (ap (list_any (λ m. m == 0)) o ∙ zero-unopened a v)))
 
 -- all streams, of which none changes
 pub none-moved : (a b : Account) → Valid a → opened b.log ≡ opened a.log → ((n : ℕ) → 0 < n → Same n a b) → streams b
@@ -144,5 +135,5 @@ none-moved a b v o s = streams-same a b o λ n. by n (n == 0) refl
     by : (n : ℕ) (z : Bool) → (n == 0) ≡ z → live n b ≡ live n a
     by n false k = same-live n a b (s n (grind (arith, k)))
     by n true k = subst (λ m. live m b ≡ live m a) (sym (eqb-true n 0 k))
-        (unopened-live 0 b (ap (list_any (λ m. m == 0)) o ∙ zero-unopened a v)
-        ∙ sym (unopened-live 0 a (zero-unopened a v)))
+        (not-opened 0 b (ap (list_any (λ m. m == 0)) o ∙ zero-unopened a v)
+        ∙ sym (not-opened 0 a (zero-unopened a v)))

@@ -1,17 +1,17 @@
--- `Sound` is kept by each call.
+-- `CallsSound` is kept by each call.
 use Rattle.std.proofs.Common.{◌≡◌, ℕ, ◌-◌, ◌<◌, Bool, true, false, not, ◌||◌, ◌==◌, List, [], ◌∷◌, length, drop, refl, sym, ◌∙◌, subst, if◌then◌else◌, filter, All, arith, nat_lt, ltb-true}
 use Rattle.std.proofs.lemmas.List.Elements.{All-tail, All-cons, All-nil, All-filter}
 use Rattle.std.proofs.lemmas.List.{length-drop}
 use Rattle.h2_frames.specs.declared.frame.Frame.{Frame}
 use Rattle.h2_frames.specs.declared.frame.Frame.TheVariants as frame
 use Rattle.h2_frames.specs.Spelling.{spelling}
-use Rattle.h2_model.specs.Log.{Entry, Log, Handed, Owed, is_empty, stream_of, violation}
+use Rattle.h2_model.specs.Log.{LogEntry, Log, Handed, Owed, is_empty, stream_of, violation}
 use Rattle.h2_model.specs.Streams.{is_reset, resets}
 use Rattle.h2_model.specs.Queue.{Waiting, fresh, behind, whole_within, entered}
 use Rattle.h2_model.specs.Account.{Account, is_headless}
 use Rattle.h2_model.specs.Valid.{Valid, is_lost, is_lost_entry}
 use Rattle.h2_model.specs.History.{noted, handed, headed, given, called, Take, is_of, frame_in}
-use Rattle.h2_laws_log.specs.Sound.{Sound, has_left, may_be_held}
+use Rattle.h2_laws_log.specs.Sound.{CallsSound, has_left, may_be_held}
 use Rattle.h2_laws_log.specs.Calling.{all_entered}
 use Rattle.h2_laws_log.proofs.Hand.{sunk, handed-is, all-queue-by, all-held-by}
 use Rattle.h2_laws_log.proofs.Release.{all-held-still, held-still, all-all-entered, log_after, after-same}
@@ -44,7 +44,7 @@ pub still : {r : Bool} (x : Bool) → r ≡ true → (x || r) ≡ true
 still true e = refl
 still false e = e
 
-pub noted-sound : (e : Entry) (a : Account) → violation (e ∷ a.log) ≡ violation a.log → Sound a → Sound (noted e a)
+pub noted-sound : (e : LogEntry) (a : Account) → violation (e ∷ a.log) ≡ violation a.log → CallsSound a → CallsSound (noted e a)
 unfolding noted
 noted-sound e a n s = record {
   left = All-filter (λ w. not (is_lost (e ∷ a.log) w)) (λ w. has_left w ≡ true) a.waiting s.left;
@@ -53,15 +53,15 @@ noted-sound e a n s = record {
   lost = λ v. s.lost (sym n ∙ v);
 }
 
-pub handed-sound : (f : Frame) (a : Account) → may_be_held a.log (Handed f) ≡ true → Sound a → Sound (handed f a)
+pub handed-sound : (f : Frame) (a : Account) → may_be_held a.log (Handed f) ≡ true → CallsSound a → CallsSound (handed f a)
 unfolding noted
 handed-sound f a m s =
-    subst Sound (sym (handed-is f a))
+    subst CallsSound (sym (handed-is f a))
     (by (is_headless a (stream_of f)) (noted (Handed f) a) (λ k r. still (resets k (Handed f)) r)
     (noted-sound (Handed f) a refl s))
   where
-    by : (c : Bool) (b : Account) → ((k : ℕ) → is_reset k a.log ≡ true → is_reset k b.log ≡ true) → Sound b
-        → Sound (sunk c f b)
+    by : (c : Bool) (b : Account) → ((k : ℕ) → is_reset k a.log ≡ true → is_reset k b.log ≡ true) → CallsSound b
+        → CallsSound (sunk c f b)
     by c b r t = record {
       left = all-queue-by (λ w. has_left w ≡ true) (λ w h. h) c f b.waiting (fresh-left f) t.left;
       holds = all-held-by (λ e. may_be_held b.log e ≡ true) c f b.held (held-still a.log b.log r (Handed f) m) t.holds;
@@ -70,22 +70,22 @@ handed-sound f a m s =
 
 -- a block was handed over
 
-after-resets : (held : List Entry) (log : Log) (k : ℕ) → is_reset k log ≡ true → is_reset k (log_after held log) ≡ true
+after-resets : (held : List LogEntry) (log : Log) (k : ℕ) → is_reset k log ≡ true → is_reset k (log_after held log) ≡ true
 after-resets [] log k r = r
 after-resets (Owed f ∷ held) log k r = after-resets held (Owed f ∷ log) k (still (resets k (Owed f)) r)
 after-resets (e ∷ held) log k r = after-resets held log k r
 
-fresh-lefts : (held : List Entry) → All (λ e. has_left (fresh (frame_in e)) ≡ true) held
+fresh-lefts : (held : List LogEntry) → All (λ e. has_left (fresh (frame_in e)) ≡ true) held
 fresh-lefts [] = All-nil (λ e. has_left (fresh (frame_in e)) ≡ true)
 fresh-lefts (e ∷ held) =
     All-cons (λ x. has_left (fresh (frame_in x)) ≡ true) e held (fresh-left (frame_in e)) (fresh-lefts held)
 
-pub headed-sound : (id : ℕ) (block : List ℕ) (last ends : Bool) (a : Account) → Valid a → Sound a
-    → Sound (headed id (frame.Headers id block last ends) a)
+pub headed-sound : (id : ℕ) (block : List ℕ) (last ends : Bool) (a : Account) → Valid a → CallsSound a
+    → CallsSound (headed id (frame.Headers id block last ends) a)
 headed-sound id block last ends a v s =
-    subst Sound (sym (headed-is id block last ends a v s.holds)) (by (frame.Headers id block last ends))
+    subst CallsSound (sym (headed-is id block last ends a v s.holds)) (by (frame.Headers id block last ends))
   where
-    by : (f : Frame) → Sound
+    by : (f : Frame) → CallsSound
         (record a {
           log = log_after (filter (is_of id) a.held) (Handed f ∷ a.log);
           waiting = all_entered (filter (is_of id) a.held) (entered f a.waiting);
@@ -128,7 +128,7 @@ behind-left n (w ∷ queue) h =
         (All-tail (λ x. has_left x ≡ true) w queue h)
     by false false l ih = ih
 
-pub take-sound : (n : ℕ) (a : Account) → Sound a → Sound (called (Take n) a)
+pub take-sound : (n : ℕ) (a : Account) → CallsSound a → CallsSound (called (Take n) a)
 unfolding called
 take-sound n a s = record {
   left = behind-left n a.waiting s.left;

@@ -9,7 +9,7 @@ use Rattle.h2_model.specs.Windows.{connection_window, window_from}
 use Rattle.h2_model.specs.History.{start, own_settings, first_bytes, frame_in}
 use Rattle.h2_model.specs.State.{seen, streams}
 use Rattle.h2_model.specs.Valid.{Valid, is_lost, is_lost_entry, is_of_opened, is_update_owed}
-use Rattle.h2_laws_log.specs.Sound.{Sound, has_left, may_be_held}
+use Rattle.h2_laws_log.specs.Sound.{CallsSound, has_left, may_be_held}
 use Rattle.h2_laws_log.specs.Calling.{starting}
 
 pub start-seen : (client : Bool) → seen (start client) ≡ starting client
@@ -46,7 +46,7 @@ start-valid client = record {
         → All P (record { frame = own_settings client; left = first_bytes client; fixed = false } ∷ [])
     one P p = All-cons P (record { frame = own_settings client; left = first_bytes client; fixed = false }) [] p (All-nil P)
 
-pub start-sound : (client : Bool) → Sound (start client)
+pub start-sound : (client : Bool) → CallsSound (start client)
 unfolding start
 start-sound client = record {
   left = All-cons (λ w. has_left w ≡ true)

@@ -12,7 +12,7 @@ use Rattle.h2_model.specs.History.{given, called, Take}
 use Rattle.h2_model.specs.State.{State, seen}
 use Rattle.h2_model.specs.Moves.{giving, giving_all}
 use Rattle.h2_model.specs.Valid.{Valid}
-use Rattle.h2_laws_log.specs.Sound.{Sound, has_left}
+use Rattle.h2_laws_log.specs.Sound.{CallsSound, has_left}
 use Rattle.h2_laws_log.specs.Calling.{taking}
 use Rattle.h2_laws_log.proofs.Queues.{queued-cons}
 use Rattle.h2_laws_log.proofs.Give.{gave-seen, gave-valid, begun, begun-seen, begun-valid}
@@ -124,12 +124,12 @@ data-conserved k n (w ∷ queue) h =
         omega (arith, ih, sum_by-cons (data_in k) w.frame (whole_within (n - length w.left) queue), queued-cons k w queue)
 
 -- what is kept, after n bytes were taken
-pub take-seen : (n : ℕ) (a : Account) → Valid a → Sound a
+pub take-seen : (n : ℕ) (a : Account) → Valid a → CallsSound a
     → seen (called (Take n) a) ≡ taking n (seen a)
 unfolding called taking seen
 take-seen n a v s = taken-seen n a.waiting a v s.left
 
-pub take-valid : (n : ℕ) (a : Account) → Valid a → Sound a → Valid (called (Take n) a)
+pub take-valid : (n : ℕ) (a : Account) → Valid a → CallsSound a → Valid (called (Take n) a)
 unfolding called
 take-valid n a v s = taken-valid n a.waiting a v s.left
 

@@ -12,15 +12,16 @@ use Rattle.h2_model.specs.Calls.{MayHead}
 use Rattle.h2_model.specs.State.{State, seen, streams, live, stream_of_log}
 use Rattle.h2_model.specs.Moves.{handing}
 use Rattle.h2_model.specs.Valid.{Valid}
-use Rattle.h2_laws_log.specs.Sound.{Sound}
+use Rattle.h2_laws_log.specs.Sound.{CallsSound}
 use Rattle.h2_laws_log.specs.Calling.{heading}
 use Rattle.h2_laws_log.proofs.Lists.{both-left, both-right}
 use Rattle.h2_laws_log.proofs.Same.{Same, same-untouched}
-use Rattle.h2_laws_log.proofs.Hand.{live-opened, opened-stays, headless-stays}
+use Rattle.h2_laws_log.proofs.Hand.{opened-stays, headless-stays}
 use Rattle.h2_laws_log.proofs.HandData.{data-seen, data-valid}
 use Rattle.h2_laws_log.proofs.HandReset.{reset-seen, reset-valid}
 use Rattle.h2_laws_log.proofs.Head.{head-seen, head-valid, head-opened, head-headless}
 use Rattle.h2_laws_log.proofs.Sounds.{handed-sound, headed-sound}
+use Rattle.h2_laws_log.proofs.Brings.{live-opened}
 
 -- What a call leaves
 
@@ -72,8 +73,8 @@ pub send-valid : (id : ℕ) (bytes : List ℕ) (a : Account) → Valid a → is_
     → Valid (called (Send id bytes) a)
 send-valid id bytes a v l = send-keeps Valid id bytes a v (data-valid id bytes false (length bytes) a v l)
 
-pub send-sound : (id : ℕ) (bytes : List ℕ) (a : Account) → Sound a → Sound (called (Send id bytes) a)
-send-sound id bytes a s = send-keeps Sound id bytes a s (handed-sound (frame.Data id bytes false (length bytes)) a refl s)
+pub send-sound : (id : ℕ) (bytes : List ℕ) (a : Account) → CallsSound a → CallsSound (called (Send id bytes) a)
+send-sound id bytes a s = send-keeps CallsSound id bytes a s (handed-sound (frame.Data id bytes false (length bytes)) a refl s)
 
 pub send-opened : (id : ℕ) (bytes : List ℕ) (a : Account) → opened (called (Send id bytes) a).log ≡ opened a.log
 send-opened id bytes a =
@@ -103,8 +104,8 @@ finish-keeps P id a p q = unless-keeps P a (handed (frame.Data id [] true 0) a) 
 pub finish-valid : (id : ℕ) (a : Account) → Valid a → is_live id a.log ≡ true → Valid (called (Finish id) a)
 finish-valid id a v l = finish-keeps Valid id a v (data-valid id [] true 0 a v l)
 
-pub finish-sound : (id : ℕ) (a : Account) → Sound a → Sound (called (Finish id) a)
-finish-sound id a s = finish-keeps Sound id a s (handed-sound (frame.Data id [] true 0) a refl s)
+pub finish-sound : (id : ℕ) (a : Account) → CallsSound a → CallsSound (called (Finish id) a)
+finish-sound id a s = finish-keeps CallsSound id a s (handed-sound (frame.Data id [] true 0) a refl s)
 
 pub finish-opened : (id : ℕ) (a : Account) → opened (called (Finish id) a).log ≡ opened a.log
 finish-opened id a = finish-keeps (λ b. opened b.log ≡ opened a.log) id a refl (opened-stays (frame.Data id [] true 0) a)
@@ -131,8 +132,8 @@ reset-keeps P id code a p q = unless-keeps P a (handed (frame.Reset id code) a) 
 pub reset-call-valid : (id code : ℕ) (a : Account) → Valid a → is_live id a.log ≡ true → Valid (called (Reset id code) a)
 reset-call-valid id code a v l = reset-keeps Valid id code a v (reset-valid id code a v (live-opened id a.log l))
 
-pub reset-call-sound : (id code : ℕ) (a : Account) → Sound a → Sound (called (Reset id code) a)
-reset-call-sound id code a s = reset-keeps Sound id code a s (handed-sound (frame.Reset id code) a refl s)
+pub reset-call-sound : (id code : ℕ) (a : Account) → CallsSound a → CallsSound (called (Reset id code) a)
+reset-call-sound id code a s = reset-keeps CallsSound id code a s (handed-sound (frame.Reset id code) a refl s)
 
 pub reset-opened : (id code : ℕ) (a : Account) → opened (called (Reset id code) a).log ≡ opened a.log
 reset-opened id code a =
@@ -144,7 +145,7 @@ reset-headless id code a k =
 
 -- head
 
-found-passes : (p : ℕ → Bool) (xs : List ℕ) (n : ℕ) → find p xs ≡ Some n → p n ≡ true
+pub found-passes : (p : ℕ → Bool) (xs : List ℕ) (n : ℕ) → find p xs ≡ Some n → p n ≡ true
 found-passes p [] n e = absurd cc
 found-passes p (x ∷ xs) n e = by (p x) refl (found-passes p xs n) e
   where
@@ -160,7 +161,7 @@ may-head-opened id a m = ⊎_elim
     (found-passes (λ n. is_headless a n) (reverse (opened a.log)) id e)))
     (λ o. live-opened id a.log (both-left (is_live id a.log) (not (is_ended_here id a.log)) o.1)) m
 
-pub head-call-seen : (id : ℕ) (fields : List Field) (block : List ℕ) (last : Bool) (a : Account) → Valid a → Sound a
+pub head-call-seen : (id : ℕ) (fields : List Field) (block : List ℕ) (last : Bool) (a : Account) → Valid a → CallsSound a
     → seen (called (Head id fields block last) a)
     ≡ (if is_violated a then seen a else heading id (frame.Headers id block last true) (seen a))
 unfolding called
@@ -173,24 +174,24 @@ pub head-keeps : (P : Account → Type 0) (id : ℕ) (fields : List Field) (bloc
 unfolding called
 head-keeps P id fields block last a p q = unless-keeps P a (headed id (frame.Headers id block last true) a) p q
 
-pub head-call-valid : (id : ℕ) (fields : List Field) (block : List ℕ) (last : Bool) (a : Account) → Valid a → Sound a
+pub head-call-valid : (id : ℕ) (fields : List Field) (block : List ℕ) (last : Bool) (a : Account) → Valid a → CallsSound a
     → is_opened id a.log ≡ true
     → Valid (called (Head id fields block last) a)
 head-call-valid id fields block last a v s o =
     head-keeps Valid id fields block last a v (head-valid id block last true a v s.holds o)
 
-pub head-call-sound : (id : ℕ) (fields : List Field) (block : List ℕ) (last : Bool) (a : Account) → Valid a → Sound a
-    → Sound (called (Head id fields block last) a)
+pub head-call-sound : (id : ℕ) (fields : List Field) (block : List ℕ) (last : Bool) (a : Account) → Valid a → CallsSound a
+    → CallsSound (called (Head id fields block last) a)
 head-call-sound id fields block last a v s =
-    head-keeps Sound id fields block last a s (headed-sound id block last true a v s)
+    head-keeps CallsSound id fields block last a s (headed-sound id block last true a v s)
 
-pub head-call-opened : (id : ℕ) (fields : List Field) (block : List ℕ) (last : Bool) (a : Account) → Valid a → Sound a
+pub head-call-opened : (id : ℕ) (fields : List Field) (block : List ℕ) (last : Bool) (a : Account) → Valid a → CallsSound a
     → opened (called (Head id fields block last) a).log ≡ opened a.log
 head-call-opened id fields block last a v s =
     head-keeps (λ b. opened b.log ≡ opened a.log) id fields block last a refl (head-opened id block last true a v s.holds)
 
 pub head-call-headless : (id : ℕ) (fields : List Field) (block : List ℕ) (last : Bool) (a : Account) (k : ℕ) → Valid a
-    → Sound a
+    → CallsSound a
     → is_headless (called (Head id fields block last) a) k
     ≡ (if is_violated a then is_headless a k else if id == k then false else is_headless a k)
 unfolding called
@@ -237,5 +238,5 @@ answered-valid a v = record {
   updates = v.updates;
 }
 
-pub answered-sound : (a : Account) → Sound a → Sound (answered a)
+pub answered-sound : (a : Account) → CallsSound a → CallsSound (answered a)
 answered-sound a s = record { left = s.left; holds = s.holds; lost = s.lost }

@@ -2,7 +2,7 @@
 use Rattle.std.specs.Prelude.{ℕ, Bool, true, false, not, List, [], ◌∷◌, ◌++◌, Some, None, filter, pos}
 use Rattle.h2_frames.specs.declared.frame.Frame.{Frame}
 use Rattle.h2_frames.specs.declared.frame.Frame.TheVariants as frame
-use Rattle.h2_model.specs.Log.{Entry}
+use Rattle.h2_model.specs.Log.{LogEntry}
 use Rattle.h2_model.specs.Blocks.{table_after}
 use Rattle.h2_model.specs.Queue.{Waiting, fresh, is_free, entered, behind, whole_within}
 use Rattle.h2_model.specs.History.{frame_in, is_of, own_settings, first_bytes}
@@ -34,7 +34,7 @@ starting client = record {
 -- A block goes out, and behind it what was held for it
 
 -- what was held enters the queue, oldest first
-abbrev pub all_entered : List Entry → List Waiting → List Waiting
+abbrev pub all_entered : List LogEntry → List Waiting → List Waiting
 all_entered [] queue = queue
 all_entered (e ∷ held) queue = all_entered held (entered (frame_in e) queue)
 

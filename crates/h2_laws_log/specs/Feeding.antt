@@ -35,7 +35,7 @@ is_feed (Feed bytes) = true
 is_feed _ = false
 
 -- the frame of which bytes go on is faulty: the fault stands at the `count`-th of them, and what is kept doesn't count
-pub record Fails (code : ℕ) (bytes : List ℕ) (a : Account) : Type 0 where
+pub record FailsWithin (code : ℕ) (bytes : List ℕ) (a : Account) : Type 0 where
   pub count : ℕ
   pub some : 0 < count
   pub within : count ≤ length bytes
@@ -45,7 +45,7 @@ pub record Fails (code : ℕ) (bytes : List ℕ) (a : Account) : Type 0 where
   pub after : with_bytes (take count bytes) a ≡ violated code (record a { rest = rest })
 
 -- the first n of the bytes are used, and lead from the account a to b
-pub record IsRead (a : Account) (bytes : List ℕ) (n : ℕ) (b : Account) : Type 0 where
+pub record HasRead (a : Account) (bytes : List ℕ) (n : ℕ) (b : Account) : Type 0 where
   pub within : n ≤ length bytes
   pub uses : used (take n bytes) a ≡ n
   pub after : with_bytes (take n bytes) a ≡ b

@@ -4,7 +4,7 @@ use Rattle.std.specs.Prelude.{ℕ, ◌+◌, ◌≡◌, ◌≤◌, Bool, true, fa
 use Rattle.h2_frames.specs.declared.frame.Frame.{Frame}
 use Rattle.h2_frames.specs.declared.frame.Frame.TheVariants as frame
 use Rattle.h2_model.specs.declared.stream.Stream.{Stream}
-use Rattle.h2_model.specs.Log.{Entry}
+use Rattle.h2_model.specs.Log.{LogEntry}
 use Rattle.h2_model.specs.Streams.{is_reset, is_ended_here}
 use Rattle.h2_model.specs.Queue.{Waiting}
 use Rattle.h2_model.specs.Account.{Account}
@@ -25,7 +25,7 @@ closing f = one_if (is_closing f)
 abbrev pub closings_waiting : List Waiting → ℕ
 closings_waiting queue = sum_by (λ w. closing w.frame) queue
 
-abbrev pub closings_held : List Entry → ℕ
+abbrev pub closings_held : List LogEntry → ℕ
 closings_held held = sum_by (λ e. closing (frame_in e)) held
 
 -- the closing frames that calls may still hand over for a live stream: its end, if it has none yet, and a reset

@@ -5,7 +5,7 @@ use Rattle.h2_frames.specs.declared.frame.Frame.TheVariants as frame
 use Rattle.h2_model.specs.declared.answers.Event.{Event}
 use Rattle.h2_model.specs.declared.answers.Event.TheVariants as event
 use Rattle.h2_model.specs.Codes.{refused_stream}
-use Rattle.h2_model.specs.Log.{Entry, Opened, Received, Block, Violated, Handed, Owed, Given, Reported, stream_of, stream_of_event}
+use Rattle.h2_model.specs.Log.{LogEntry, Opened, Received, Block, Violated, Handed, Owed, Given, Reported, stream_of, stream_of_event}
 use Rattle.h2_model.specs.Streams.{is_opened}
 use Rattle.h2_model.specs.Blocks.{OpenBlock, open_block, whole_block}
 use Rattle.h2_model.specs.Queue.{Waiting}
@@ -17,14 +17,14 @@ use Rattle.h2_model.specs.Moves.{opening, receiving, decoding, telling_all, owin
 use Rattle.h2_model.specs.Valid.{Valid}
 
 -- the stream that an entry resets
-abbrev pub reset_by : Entry → Option ℕ
+abbrev pub reset_by : LogEntry → Option ℕ
 reset_by (Reported (event.Reset n code)) = Some n
 reset_by (Handed (frame.Reset n code)) = Some n
 reset_by (Owed (frame.Reset n code)) = Some n
 reset_by _ = None
 
 -- the stream that an entry speaks of; 0 is the connection
-abbrev pub about : Entry → ℕ
+abbrev pub about : LogEntry → ℕ
 about (Opened n) = n
 about (Received f) = stream_of f
 about (Block n bytes last) = n
@@ -39,7 +39,7 @@ abbrev pub without_waiting : Option ℕ → List Waiting → List Waiting
 without_waiting None queue = queue
 without_waiting (Some id) queue = kept_waiting id queue
 
-abbrev pub without_held : Option ℕ → List Entry → List Entry
+abbrev pub without_held : Option ℕ → List LogEntry → List LogEntry
 without_held None held = held
 without_held (Some id) held = kept_held id held
 
@@ -68,7 +68,7 @@ is_block_opened a None = true
 is_block_opened a (Some b) = is_opened b.stream a.log
 
 -- what holds of every account: a block that ends counts for a stream that was opened
-pub record Sound (a : Account) : Type 0 where
+pub record FramesSound (a : Account) : Type 0 where
   pub valid : Valid a
   pub block : is_block_opened a (open_block a.log) ≡ true
 

@@ -1,5 +1,5 @@
 //! Laws of bytes, as contracts of functions that do nothing.
-ghost use Rattle.h2_laws_log.specs.Feeding.{EndsAt, EndsAtFault, Fails, IsRead, KeepsInput, KeepsPart, ReadsFrames, ReadsPreface, is_feed};
+ghost use Rattle.h2_laws_log.specs.Feeding.{EndsAt, EndsAtFault, FailsWithin, HasRead, KeepsInput, KeepsPart, ReadsFrames, ReadsPreface, is_feed};
 ghost use Rattle.h2_frames.specs.Frames.{Faulty, Unfinished, Whole, first};
 ghost use Rattle.h2_frames.specs.declared.frame.Frame.{Frame};
 ghost use Rattle.h2_model.specs.Account.{Account};
@@ -42,7 +42,7 @@ pub fn frame_comes()
 /// A faulty frame (RFC 9113 section 4.2) is a connection error at one of the bytes, and none behind it is used.
 pub fn frame_fails()
     ensures { (bytes : List ℕ) (code : ℕ) (a : Account) → ReadsFrames a → first a.rest ≡ Unfinished →
-        first (a.rest ++ bytes) ≡ Faulty code → Fails code bytes a }
+        first (a.rest ++ bytes) ≡ Faulty code → FailsWithin code bytes a }
 {}
 
 /// A server's first bytes are the client's preface (RFC 9113 section 3.4); the first that differs is a PROTOCOL_ERROR.
@@ -59,33 +59,33 @@ pub fn preface_comes()
 
 /// How a loop over bytes goes: nothing is read at first, then bytes of the preface and whole frames.
 pub fn bytes_are_read()
-    ensures starts { (bytes : List ℕ) (a : Account) → IsRead a bytes 0 a }
-    ensures frame { (a : Account) (bytes : List ℕ) (n : ℕ) (b : Account) → IsRead a bytes n b →
+    ensures starts { (bytes : List ℕ) (a : Account) → HasRead a bytes 0 a }
+    ensures frame { (a : Account) (bytes : List ℕ) (n : ℕ) (b : Account) → HasRead a bytes n b →
         (m : ℕ) (f : Frame) → ReadsFrames b → first (b.rest ++ drop n bytes) ≡ Whole f (length b.rest + m) →
-        0 < m → m ≤ length (drop n bytes) → IsRead a bytes (n + m) (arrived f (record b { rest = [] })) }
-    ensures byte { (a : Account) (bytes : List ℕ) (n : ℕ) (b : Account) → IsRead a bytes n b →
-        n < length bytes → is_stopped b ≡ false → IsRead a bytes (n + 1) (with_byte (slice_index bytes n) b) }
-    ensures preface { (a : Account) (bytes : List ℕ) (n : ℕ) (b : Account) → IsRead a bytes n b →
+        0 < m → m ≤ length (drop n bytes) → HasRead a bytes (n + m) (arrived f (record b { rest = [] })) }
+    ensures byte { (a : Account) (bytes : List ℕ) (n : ℕ) (b : Account) → HasRead a bytes n b →
+        n < length bytes → is_stopped b ≡ false → HasRead a bytes (n + 1) (with_byte (slice_index bytes n) b) }
+    ensures preface { (a : Account) (bytes : List ℕ) (n : ℕ) (b : Account) → HasRead a bytes n b →
         (k : ℕ) → ReadsPreface k b → n < length bytes → slice_index bytes n ≡ slice_index preface k → k + 1 < 24 →
-        IsRead a bytes (n + 1) (record b { rest = take (k + 1) preface }) }
-    ensures greeted { (a : Account) (bytes : List ℕ) (n : ℕ) (b : Account) → IsRead a bytes n b →
+        HasRead a bytes (n + 1) (record b { rest = take (k + 1) preface }) }
+    ensures greeted { (a : Account) (bytes : List ℕ) (n : ℕ) (b : Account) → HasRead a bytes n b →
         (k : ℕ) → ReadsPreface k b → n < length bytes → slice_index bytes n ≡ slice_index preface k → k + 1 ≡ 24 →
-        IsRead a bytes (n + 1) (record b { greeted = true; rest = [] }) }
+        HasRead a bytes (n + 1) (record b { greeted = true; rest = [] }) }
 {}
 
 /// Where a loop over bytes ends: where something was brought, at the last byte, or at a violation.
 pub fn reading_ends()
-    ensures stopped { (a : Account) (bytes : List ℕ) (n : ℕ) (b : Account) → IsRead a bytes n b → is_stopped b ≡ true →
+    ensures stopped { (a : Account) (bytes : List ℕ) (n : ℕ) (b : Account) → HasRead a bytes n b → is_stopped b ≡ true →
         EndsAt a bytes n b }
-    ensures all { (a : Account) (bytes : List ℕ) (n : ℕ) (b : Account) → IsRead a bytes n b → n ≡ length bytes →
+    ensures all { (a : Account) (bytes : List ℕ) (n : ℕ) (b : Account) → HasRead a bytes n b → n ≡ length bytes →
         EndsAt a bytes n b }
-    ensures more { (a : Account) (bytes : List ℕ) (n : ℕ) (b : Account) → IsRead a bytes n b → ReadsFrames b →
+    ensures more { (a : Account) (bytes : List ℕ) (n : ℕ) (b : Account) → HasRead a bytes n b → ReadsFrames b →
         first (b.rest ++ drop n bytes) ≡ Unfinished →
         EndsAt a bytes (length bytes) (record b { rest = b.rest ++ drop n bytes }) }
-    ensures other { (a : Account) (bytes : List ℕ) (n : ℕ) (b : Account) → IsRead a bytes n b →
+    ensures other { (a : Account) (bytes : List ℕ) (n : ℕ) (b : Account) → HasRead a bytes n b →
         (k : ℕ) → ReadsPreface k b → n < length bytes → slice_index bytes n ≢ slice_index preface k →
         EndsAt a bytes (n + 1) (violated 1 b) }
-    ensures fault { (a : Account) (bytes : List ℕ) (n : ℕ) (b : Account) → IsRead a bytes n b →
+    ensures fault { (a : Account) (bytes : List ℕ) (n : ℕ) (b : Account) → HasRead a bytes n b →
         (code : ℕ) → ReadsFrames b → first b.rest ≡ Unfinished → first (b.rest ++ drop n bytes) ≡ Faulty code →
         EndsAtFault a bytes code b }
 {}

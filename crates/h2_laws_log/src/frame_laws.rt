@@ -1,5 +1,5 @@
 //! Laws of frames that come in, as contracts of functions that do nothing.
-ghost use Rattle.h2_laws_log.specs.Steps.{Sound, opening_for, resets_above, with_frame};
+ghost use Rattle.h2_laws_log.specs.Steps.{FramesSound, opening_for, resets_above, with_frame};
 ghost use Rattle.h2_frames.specs.declared.frame.Frame.{Frame};
 ghost use Rattle.h2_model.specs.Account.{Account};
 ghost use Rattle.h2_model.specs.Duties.{reset_by_goaway};
@@ -16,31 +16,31 @@ ghost use Rattle.std.specs.Prelude.{Bool, List, None, find, length, ◌<◌, ◌
 /// A frame comes in that is no connection error (RFC 9113 section 5.4.1): HEADERS may open a stream, the frame changes
 /// windows, settings and streams, a whole block is decoded, what the frame brings is told, and what is owed for it waits.
 pub fn frame_comes_in()
-    ensures state { (f : Frame) (a : Account) → Sound a → violation_of a f ≡ None → seen (arrived f a) ≡ with_frame f a }
-    ensures sound { (f : Frame) (a : Account) → Sound a → violation_of a f ≡ None → Sound (arrived f a) }
+    ensures state { (f : Frame) (a : Account) → FramesSound a → violation_of a f ≡ None → seen (arrived f a) ≡ with_frame f a }
+    ensures sound { (f : Frame) (a : Account) → FramesSound a → violation_of a f ≡ None → FramesSound (arrived f a) }
 {}
 
 /// HEADERS come in that are no connection error: they open a stream that isn't known, and reset it where 256 are live (RFC
 /// 9113 section 5.1.2). Other frames open none.
 pub fn headers_open_a_stream()
-    ensures state { (f : Frame) (a : Account) → Sound a → violation_of a f ≡ None →
+    ensures state { (f : Frame) (a : Account) → FramesSound a → violation_of a f ≡ None →
         seen (with_opening f a) ≡ opening_for (λ id. is_opened id a.log) f (seen a) }
-    ensures valid { (f : Frame) (a : Account) → Sound a → violation_of a f ≡ None → Valid (with_opening f a) }
+    ensures valid { (f : Frame) (a : Account) → FramesSound a → violation_of a f ≡ None → Valid (with_opening f a) }
 {}
 
 /// A stream is opened whose number is above all others (RFC 9113 section 5.1.1): it is the last of the live streams.
 pub fn stream_opens()
-    ensures state { (n : ℕ) (a : Account) → Sound a → greatest (opened a.log) < n →
+    ensures state { (n : ℕ) (a : Account) → FramesSound a → greatest (opened a.log) < n →
         seen (noted (Opened n) a) ≡ opening n (seen a) }
-    ensures sound { (n : ℕ) (a : Account) → Sound a → greatest (opened a.log) < n → Sound (noted (Opened n) a) }
+    ensures sound { (n : ℕ) (a : Account) → FramesSound a → greatest (opened a.log) < n → FramesSound (noted (Opened n) a) }
 {}
 
 /// Bytes that are no whole frame, the preface and events that were answered change nothing else.
 pub fn what_is_no_entry_is_kept_apart()
     ensures state { (greeted : Bool) (rest : List ℕ) (us : List Event) (a : Account) →
         seen (record a { greeted = greeted; rest = rest; unreported = us }) ≡ record (seen a) { unreported = us } }
-    ensures sound { (greeted : Bool) (rest : List ℕ) (us : List Event) (a : Account) → Sound a →
-        Sound (record a { greeted = greeted; rest = rest; unreported = us }) }
+    ensures sound { (greeted : Bool) (rest : List ℕ) (us : List Event) (a : Account) → FramesSound a →
+        FramesSound (record a { greeted = greeted; rest = rest; unreported = us }) }
 {}
 
 /// What answers read of the live streams: one by its number, how many there are, and which a GOAWAY resets.

@@ -1,12 +1,12 @@
 //! Laws of room, as contracts of functions that do nothing.
 ghost use Rattle.h2_laws_log.specs.Steps as arrivals;
-ghost use Rattle.h2_laws_log.specs.Sound.{Sound};
+ghost use Rattle.h2_laws_log.specs.Sound.{CallsSound};
 ghost use Rattle.h2_frames.specs.declared.frame.Frame.{Frame};
 ghost use Rattle.h2_frames.specs.declared.frame.Frame.TheVariants as frame;
 ghost use Rattle.h2_model.specs.Account.{Account};
 ghost use Rattle.h2_model.specs.Calls.{May, Role, is_open_here, kept_streams};
 ghost use Rattle.h2_model.specs.History.{Call, Take, answered, arrived, called, handed, headed, noted, start, violated, with_byte, with_bytes};
-ghost use Rattle.h2_model.specs.Log.{Entry};
+ghost use Rattle.h2_model.specs.Log.{LogEntry};
 ghost use Rattle.h2_model.specs.State.{streams};
 ghost use Rattle.h2_model.specs.Streams.{is_live};
 ghost use Rattle.h2_model.specs.Valid.{Valid};
@@ -27,11 +27,11 @@ pub fn session_begins_counted()
 
 /// What comes in adds at most one reset of a stream, which was live or is new.
 pub fn frames_keep_the_count()
-    ensures noted { (e : Entry) (a : Account) → Counted a → Counted (noted e a) }
-    ensures arrived { (f : Frame) (a : Account) → arrivals.Sound a → Counted a → Counted (arrived f a) }
+    ensures noted { (e : LogEntry) (a : Account) → Counted a → Counted (noted e a) }
+    ensures arrived { (f : Frame) (a : Account) → arrivals.FramesSound a → Counted a → Counted (arrived f a) }
     ensures violated { (code : ℕ) (a : Account) → Counted a → Counted (violated code a) }
-    ensures byte { (b : ℕ) (a : Account) → arrivals.Sound a → Sound a → Counted a → Counted (with_byte b a) }
-    ensures bytes { (bytes : List ℕ) (a : Account) → arrivals.Sound a → Sound a → Counted a → Counted (with_bytes bytes a) }
+    ensures byte { (b : ℕ) (a : Account) → arrivals.FramesSound a → CallsSound a → Counted a → Counted (with_byte b a) }
+    ensures bytes { (bytes : List ℕ) (a : Account) → arrivals.FramesSound a → CallsSound a → Counted a → Counted (with_bytes bytes a) }
 {}
 
 /// What is handed over adds an end only where there was none, and a reset only of a live stream. A block that goes out moves
@@ -51,6 +51,6 @@ pub fn handing_keeps_the_count()
 
 /// Each call that may be made hands over at most one end and one reset of a stream.
 pub fn calls_keep_the_count()
-    ensures { (r : Role) (call : Call) (a : Account) → arrivals.Sound a → Sound a → May r call a → Counted a →
+    ensures { (r : Role) (call : Call) (a : Account) → arrivals.FramesSound a → CallsSound a → May r call a → Counted a →
         Counted (called call a) }
 {}

@@ -2,12 +2,11 @@
 use Rattle.std.specs.Prelude.{ℕ, ◌≡◌, true, false, List, [], ◌∷◌, ◌++◌, length, codes, refl, replicate, Some}
 use Rattle.ext_msgs.specs.declared.lists.Field.{Field}
 use Rattle.hpack_prim.specs.Integers.{groups_at, int_at}
-use Rattle.h2_frames.specs.declared.frame.Frame.{Frame}
+use Rattle.hpack_core.specs.Static.{entry as field}
 use Rattle.h2_frames.specs.declared.frame.Frame.TheVariants as frame
-use Rattle.h2_model.specs.declared.answers.Event.{Event}
 use Rattle.h2_model.specs.declared.answers.Event.TheVariants as event
 use Rattle.h2_model.specs.History.{Open, called}
-use Rattle.h2_model_examples.specs.Setting.{rules, fed, reported, came, client, client_code}
+use Rattle.h2_model_examples.specs.Setting.{rules, fed, reported, came, client, brings, client_code}
 
 -- a block of :status 200
 abbrev ok : List ℕ
@@ -17,14 +16,8 @@ ok = 136 ∷ []
 abbrev block : List ℕ → List ℕ → List ℕ
 block name value = 0 ∷ length name ∷ name ++ length value ∷ value
 
-abbrev field : List ℕ → List ℕ → Field
-field name value = record { name = name; value = value }
-
 abbrev status : List ℕ → Field
 status value = field (codes ":status") value
-
-abbrev brings : List Frame → List Event
-brings frames = reported (came frames client)
 
 -- 1,561 fields of 42 bytes
 list_too_long : client_code (frame.Headers 1 (replicate 1561 136) false true ∷ []) ≡ Some 11

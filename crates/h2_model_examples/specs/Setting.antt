@@ -75,6 +75,10 @@ client = client_after (fed no_settings ∷ Open ∷ Head 1 [] [] false ∷ [])
 abbrev pub server : Account
 server = server_after (fed preface_digits ∷ fed no_settings ∷ [])
 
+-- what a client is told of these frames
+abbrev pub brings : List Frame → List Event
+brings frames = reported (came frames client)
+
 abbrev pub client_code : List Frame → Option ℕ
 client_code frames = code (came frames client)
 

@@ -2,15 +2,11 @@
 use Rattle.std.specs.Prelude.{ℕ, ◌≡◌, ◌+◌, zero, suc, true, false, List, [], ◌∷◌, ◌++◌, codes, refl}
 use Rattle.h2_frames.specs.declared.frame.Frame.{Frame}
 use Rattle.h2_frames.specs.declared.frame.Frame.TheVariants as frame
-use Rattle.h2_model.specs.declared.answers.Event.{Event}
 use Rattle.h2_model.specs.declared.answers.Event.TheVariants as event
-use Rattle.h2_model.specs.Log.{Opened, Entry}
+use Rattle.h2_model.specs.Log.{Opened, LogEntry}
 use Rattle.h2_model.specs.Account.{Account}
 use Rattle.h2_model.specs.History.{Open, called}
-use Rattle.h2_model_examples.specs.Setting.{rules, pairs, reported, waiting_behind, came, client, server}
-
-abbrev brings : List Frame → List Event
-brings frames = reported (came frames client)
+use Rattle.h2_model_examples.specs.Setting.{rules, pairs, reported, waiting_behind, came, client, brings, server}
 
 -- what is owed behind the first SETTINGS, the acknowledgement and the head
 abbrev answers : List Frame → List ℕ
@@ -72,7 +68,7 @@ goaway_resets_the_later_streams : reported (came (frame.GoAway 1 0 ∷ []) (call
 unfolding rules
 goaway_resets_the_later_streams = refl
 
-abbrev odd_from : ℕ → ℕ → List Entry
+abbrev odd_from : ℕ → ℕ → List LogEntry
 odd_from zero n = []
 odd_from (suc k) n = Opened n ∷ odd_from k (n + 2)
 

@@ -4,10 +4,16 @@ use Rattle.std.proofs.lemmas.List.{drop-append-le, drop-drop}
 use Rattle.std.proofs.Math.Seq.{drop-append-add}
 use Rattle.h2_frames.specs.Spelling.{bit, framed}
 use Rattle.h2_model.specs.Log.{is_empty}
-use Rattle.h2_model.specs.Queue.{continued}
-use Rattle.h2_sender.specs.Outgoing.{IsCopied, block_bytes}
-use Rattle.h2_sender.proofs.Copies.{copied_of, copied_more}
-use Rattle.h2_sender.proofs.Spelled.{same_frame}
+use Rattle.h2_model.specs.Queue.{bytes_of, continued}
+use Rattle.h2_frames.specs.Copied.{IsCopied}
+use Rattle.h2_frames.specs.declared.frame.Frame.TheVariants as frame
+use Rattle.h2_frames.proofs.Copies.{copied_of, copied_more}
+use Rattle.h2_frames.proofs.Spelled.{same_frame}
+use Rattle.h2_sender.specs.Outgoing.{block_bytes}
+
+pub block_is : (id : ℕ) (block : List ℕ) (last ends : Bool) → block_bytes id block last ≡ bytes_of (frame.Headers id block last ends)
+unfolding block_bytes
+block_is id block last ends = refl
 
 -- the bytes are those of so many frames
 record IsCut (more : ℕ) (bytes : List ℕ) : Type 0 where
@@ -142,17 +148,17 @@ ends_there bytes = by_length (drop 16384 bytes) (length bytes) (length-drop 1638
 
 -- bytes copied of a block's frame are bytes of the block
 
-pub copied_first : (id : ℕ) (block : List ℕ) (last : Bool) (at : ℕ) (bytes : List ℕ) (ends : Bool) (flags from : ℕ) (old new : List ℕ) (n : ℕ) → Stands at (length block) → at / 16393 ≡ 0 → bytes ≡ take 16384 (drop (at / 16393 * 16384) block) → ends ≡ nat_le (length block - at / 16393 * 16384) 16384 → flags ≡ bit 1 last + bit 4 ends → IsCopied (drop (at % 16393) (framed 1 flags id bytes)) from old new n → IsCopied (drop at (block_bytes id block last)) from old new n
-copied_first id block last at bytes ends flags from old new n s z p e f h =
+pub copied_first : (id : ℕ) (block : List ℕ) (last : Bool) (at : ℕ) (bytes : List ℕ) (ends : Bool) (from : ℕ) (old new : List ℕ) (n : ℕ) → Stands at (length block) → at / 16393 ≡ 0 → bytes ≡ take 16384 (drop (at / 16393 * 16384) block) → ends ≡ nat_le (length block - at / 16393 * 16384) 16384 → IsCopied (drop (at % 16393) (framed 1 (bit 1 last + bit 4 ends) id bytes)) from old new n → IsCopied (drop at (block_bytes id block last)) from old new n
+copied_first id block last at bytes ends from old new n s z p e h =
     let start : at / 16393 * 16384 ≡ 0 = omega arith in
     let left : length block - at / 16393 * 16384 ≡ length block = omega arith in
     let within : at % 16393 ≡ at = omega arith in
     let inside : at % 16393 < 9 + min 16384 (length block - at / 16393 * 16384) = s.within in
     let bytes_are : bytes ≡ take 16384 block = p ∙ ap (λ (k : ℕ). take 16384 (drop k block)) start in
     let ends_is : ends ≡ nat_le (length block) 16384 = e ∙ ap (λ (k : ℕ). nat_le k 16384) left in
-    let flags_are : flags ≡ bit 1 last + bit 4 (nat_le (length block) 16384) = f ∙ ap (λ (b : Bool). bit 1 last + bit 4 b) ends_is in
+    let flags_are : bit 1 last + bit 4 ends ≡ bit 1 last + bit 4 (nat_le (length block) 16384) = ap (λ (b : Bool). bit 1 last + bit 4 b) ends_is in
     let r = first_at id block last at (omega arith) in
-    let same = same_frame 1 flags (bit 1 last + bit 4 (nat_le (length block) 16384)) id (at % 16393) at bytes (take 16384 block) flags_are within bytes_are in
+    let same = same_frame 1 (bit 1 last + bit 4 ends) (bit 1 last + bit 4 (nat_le (length block) 16384)) id (at % 16393) at bytes (take 16384 block) flags_are within bytes_are in
     copied_of _ _ from old new n (sym r.1) (copied_more _ r.0 from old new n (copied_of _ _ from old new n same h))
 
 pub copied_behind : (id : ℕ) (block : List ℕ) (last : Bool) (at index : ℕ) (bytes : List ℕ) (ends : Bool) (from : ℕ) (old new : List ℕ) (n : ℕ) → Stands at (length block) → at / 16393 ≡ suc index → bytes ≡ take 16384 (drop (at / 16393 * 16384) block) → ends ≡ nat_le (length block - at / 16393 * 16384) 16384 → IsCopied (drop (at % 16393) (framed 9 (bit 4 ends) id bytes)) from old new n → IsCopied (drop at (block_bytes id block last)) from old new n

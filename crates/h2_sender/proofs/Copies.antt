@@ -1,26 +1,12 @@
--- Copies of a list's first bytes, and copies behind one another.
-use Rattle.std.proofs.Common.{arith, ◌≡◌, ◌≤◌, ◌<◌, ◌+◌, ◌-◌, ◌++◌, true, false, List, length, take, drop, ℕ, refl, ap, sym, subst, ◌∙◌, length-append, length-take-le, append_assoc}
-use Rattle.std.proofs.lemmas.List.{take-append-le, drop-append-le, take_at, drop_at, drop-drop}
+-- Copies behind one another, and the preface before a frame.
+use Rattle.std.proofs.Common.{arith, ◌≡◌, ◌≤◌, ◌<◌, ◌+◌, ◌-◌, ◌++◌, true, false, List, length, take, drop, ℕ, refl, ap, sym, ◌∙◌, length-append, length-take-le, append_assoc}
+use Rattle.std.proofs.lemmas.List.{drop-append-le, take_at, drop_at, drop-drop}
 use Rattle.std.proofs.Math.Seq.{take-add, drop-append-add}
 use Rattle.h2_frames.specs.declared.frame.Frame.{Frame}
 use Rattle.h2_model.specs.History.{preface}
 use Rattle.h2_model.specs.Queue.{bytes_of}
-use Rattle.h2_sender.specs.Outgoing.{IsCopied, written}
-
--- what is copied of a list's first part is copied of the list
-pub copied_more : (bytes rest : List ℕ) (from : ℕ) (old new : List ℕ) (n : ℕ) → IsCopied bytes from old new n → IsCopied (bytes ++ rest) from old new n
-copied_more bytes rest from old new n h =
-    let there : n ≤ length bytes = h.there in
-    let longer = length-append bytes rest in
-    record {
-      some = h.some;
-      there = omega arith;
-      fits = h.fits;
-      copied = h.copied ∙ ap (λ (t : List ℕ). take from old ++ (t ++ drop (from + n) old)) (sym (take-append-le n bytes rest there));
-    }
-
-pub copied_of : (bytes whole : List ℕ) (from : ℕ) (old new : List ℕ) (n : ℕ) → bytes ≡ whole → IsCopied bytes from old new n → IsCopied whole from old new n
-copied_of bytes whole from old new n e h = subst (λ (b : List ℕ). IsCopied b from old new n) e h
+use Rattle.h2_frames.specs.Copied.{IsCopied}
+use Rattle.h2_sender.specs.Outgoing.{written}
 
 -- one more copy behind the bytes that were copied
 pub copied_next : (bytes before now next : List ℕ) (n k : ℕ) → n ≤ length bytes → now ≡ take n bytes ++ drop n before → IsCopied (drop n bytes) n now next k → next ≡ take (n + k) bytes ++ drop (n + k) before

@@ -4,7 +4,6 @@ pub mod Placed
 pub mod Ends
 pub mod Totals
 pub mod Gives
-pub mod Spelled
 pub mod Data
 pub mod Release
 pub mod Bounds

@@ -130,7 +130,7 @@ free_data_is id queue =
 
 -- one stream has no more than all
 
-data_of_one : (id : ℕ) (f : Frame) → data_in id f ≤ data_in 0 f
+pub data_of_one : (id : ℕ) (f : Frame) → data_in id f ≤ data_in 0 f
 data_of_one id (frame.Data n bytes last size) = by_test ((id == 0) || (n == id)) where
   by_test : (own : Bool) → cond own (length bytes) 0 ≤ length bytes
   by_test true = omega arith

@@ -2,27 +2,21 @@
 //! 16,384 bytes of the block, the least SETTINGS_MAX_FRAME_SIZE of section 6.5.2.
 
 ghost use Rattle.std.specs.Prelude.{◌≡◌, ◌<◌, ◌+◌, ◌-◌, ◌*◌, ◌/◌, ◌≤◌, ◌^◌, length, take, drop, min, nat_le};
-ghost use Rattle.h2_frames.specs.Spelling.{bit, framed};
-ghost use Rattle.h2_sender.specs.Outgoing.{IsCopied, block_bytes};
+ghost use Rattle.h2_frames.specs.Copied.{IsCopied};
+ghost use Rattle.h2_sender.specs.Outgoing.{block_bytes};
 
-use crate::wire::{HEAD, copy_frame};
+use h2_frames::protocol::{HEAD_LEN, LONGEST_PAYLOAD};
+use h2_frames::{copy_continuation, copy_headers};
 
 /// How many bytes of a block one frame has at most.
-const PART: usize = 16_384;
+const PART: usize = LONGEST_PAYLOAD as usize;
 
 /// How many bytes the frames of a block have.
 pub(crate) fn block_len(block: &[u8]) -> usize
     ensures len { result ≡ 9 + length block.now + 9 * ((length block.now - 1) / 16_384) }
     ensures bound { result < 2 ^ 64 - 24 }
 {
-    HEAD + block.len() + HEAD * (block.len().saturating_sub(1) / PART)
-}
-
-fn flags(last: bool, ends_block: bool) -> u8
-    ensures { result ≡ bit 1 last + bit 4 ends_block }
-{
-    let end = if ends_block { 4 } else { 0 };
-    u8::from(last) + end
+    HEAD_LEN + block.len() + HEAD_LEN * (block.len().saturating_sub(1) / PART)
 }
 
 // The part of a block that one of its frames has, and whether it is the last.
@@ -35,24 +29,6 @@ fn part_at(block: &[u8], index: usize) -> (&[u8], bool)
     let (_, rest) = block.split_at(index * PART);
     let (part, _) = rest.split_at(PART.min(rest.len()));
     (part, rest.len() <= PART)
-}
-
-/// Copies a part of a block as CONTINUATION from the byte at `at` on.
-pub(crate) fn copy_continuation(
-    stream: u32,
-    part: &[u8],
-    ends: bool,
-    at: usize,
-    out: &mut [u8],
-    from: usize,
-) -> usize
-    requires size { length part.now ≤ 16_384 }
-    requires there { at < 9 + length part.now }
-    requires room { from < length out.old }
-    ensures { IsCopied (drop at (framed 9 (bit 4 ends) stream part.now)) from out.old out.new result }
-{
-    let flags = if ends { 4 } else { 0 };
-    copy_frame(9, flags, stream, part, at, out, from)
 }
 
 /// Copies the bytes of a block's frames from the one at `at` on.
@@ -68,11 +44,11 @@ pub(crate) fn copy_block(
     requires room { from < length out.old }
     ensures { IsCopied (drop at (block_bytes stream block.now last)) from out.old out.new result }
 {
-    let index = at / (HEAD + PART);
-    let within = at % (HEAD + PART);
+    let index = at / (HEAD_LEN + PART);
+    let within = at % (HEAD_LEN + PART);
     let (part, ends) = part_at(block, index);
     if index == 0 {
-        return copy_frame(1, flags(last, ends), stream, part, within, out, from);
+        return copy_headers(stream, part, last, ends, within, out, from);
     }
     copy_continuation(stream, part, ends, within, out, from)
 }

@@ -25,10 +25,10 @@ pub(crate) struct Held {
 }
 
 impl Model for Held {
-    ghost use Rattle.h2_model.specs.Log.{Entry};
+    ghost use Rattle.h2_model.specs.Log.{LogEntry};
     ghost use Rattle.h2_sender.specs.Sending.{entry_of, IsHeld};
 
-    ghost Value = { Entry };
+    ghost Value = { LogEntry };
 
     ghost view = { λ h. entry_of h.owed h.frame };
 

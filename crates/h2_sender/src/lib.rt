@@ -3,7 +3,6 @@
 #![tactic(auto)]
 
 mod block;
-mod copy;
 mod frames;
 mod held;
 mod outgoing;
@@ -11,7 +10,6 @@ mod places;
 mod queue;
 mod sender;
 mod sums;
-mod wire;
 
 pub use queue::Taken;
 pub use sender::Sender;

@@ -5,18 +5,16 @@ ghost use Rattle.h2_model.specs.History.{preface};
 ghost use Rattle.h2_model.specs.Log.{stream_of};
 ghost use Rattle.h2_model.specs.Moves.{is_dropped};
 ghost use Rattle.h2_model.specs.Queue.{is_data, is_free, is_free_of, stays_behind, with_place, fresh, bytes_of, data_in};
-ghost use Rattle.h2_sender.specs.Outgoing.{IsSendable, IsCopied, Fits, written};
+ghost use Rattle.h2_frames.specs.Copied.{IsCopied};
+ghost use Rattle.h2_sender.specs.Outgoing.{IsSendable, IsOutgoing, written};
 ghost use Rattle.h2_sender.specs.Queue.{waits_for};
 
-use crate::copy::copy_into;
 use crate::frames::{
     copy_bytes, data_in, has_bytes, is_block, is_data, is_reset, is_window, len_of, stream_of,
 };
-use h2_frames::Frame;
+use h2_frames::protocol::PREFACE;
+use h2_frames::{Frame, copy_into};
 use std::marker::Model;
-
-/// What a client sends first: RFC 9113 section 3.4.
-const PREFACE: [u8; 24] = *b"PRI * HTTP/2.0\r\n\r\nSM\r\n\r\n";
 
 /// A frame of which bytes wait.
 #[derive(Drop)]
@@ -32,13 +30,13 @@ pub(crate) struct Outgoing {
 impl Model for Outgoing {
     ghost use Rattle.std.specs.Prelude.{drop};
     ghost use Rattle.h2_model.specs.Queue.{Waiting};
-    ghost use Rattle.h2_sender.specs.Outgoing.{Fits, written};
+    ghost use Rattle.h2_sender.specs.Outgoing.{IsOutgoing, written};
 
     ghost Value = { Waiting };
 
     ghost view = { λ o. record { frame = o.frame; left = drop o.given (written o.greeting o.frame); fixed = o.fixed } };
 
-    ghost invariant = { λ o. Fits o.frame o.greeting o.given };
+    ghost invariant = { λ o. IsOutgoing o.frame o.greeting o.given };
 }
 
 fn total(frame: &Frame, greeting: bool) -> usize

@@ -13,6 +13,7 @@ use crate::frames::data_in;
 use crate::outgoing::Outgoing;
 use crate::places::{make_ready, place};
 use crate::sums;
+use h2_frames::protocol::{ENABLE_PUSH, MAX_CONCURRENT_STREAMS};
 use h2_frames::{Frame, Setting, SettingList};
 use std::alloc::{AllocError, Global};
 use std::collections::VecDeque;
@@ -53,12 +54,12 @@ fn own_settings(alloc: Global, client: bool) -> Result<Frame, AllocError>
     let mut list = SettingList::new(alloc);
     if client {
         list.push(Setting {
-            identifier: 2,
+            identifier: ENABLE_PUSH,
             value: 0,
         })?;
     } else {
         list.push(Setting {
-            identifier: 3,
+            identifier: MAX_CONCURRENT_STREAMS,
             value: 256,
         })?;
     }
@@ -90,8 +91,8 @@ impl FrameQueue {
 
     /// A frame enters at its place: DATA at the end, and another frame before DATA that it needn't stay behind. It stays
     /// behind what is of its stream where one of the two is a field block or it is a reset, and blocks stay in their
-    /// order. A payload has at most 16,384 bytes, SETTINGS one setting, and a block, which is cut as it is given, any
-    /// length. All DATA together has at most 2^40 bytes.
+    /// order. A payload has at most 16,384 bytes, and a block, which is cut as it is given, any length. All DATA together
+    /// has at most 2^40 bytes.
     pub fn enter(&mut self, frame: Frame)
         requires sendable { IsSendable frame }
         requires room { 0 < self.old.room }

@@ -15,6 +15,7 @@ use crate::frames::data_in;
 use crate::held::{Held, drop_held, held_control, held_data, held_data_of, holds, release_held};
 use crate::queue::{FrameQueue, Taken};
 use h2_frames::Frame;
+use h2_frames::protocol::FIRST_WINDOW;
 use std::alloc::{AllocError, Global};
 use std::marker::Model;
 
@@ -57,7 +58,7 @@ impl Sender {
             queue,
             held,
             held_data: 0,
-            window: 65_535,
+            window: i64::from(FIRST_WINDOW),
         })
     }
 

@@ -19,7 +19,7 @@ use Rattle.h2_model.specs.Streams.{is_opened}
 use Rattle.h2_laws_log.specs.Steps.{arriving, opening_for, owing_frames}
 use Rattle.h2_laws_log.proofs.Arrives.{Ready, no-violation}
 use Rattle.h2_streams.specs.Rows.{early_rows}
-use Rattle.h2_streams.proofs.Rows.{code_of}
+use Rattle.h2_streams.specs.Rows.{code_of}
 use Rattle.h2_laws_kept.specs.Arriving.{Breaks, Brings}
 use Rattle.h2_laws_kept.specs.Kept.{IsBeside, IsSame, Kept, lacks_head}
 use Rattle.h2_laws_kept.specs.Rooms.{HasSpare, IsRoomy, KeepsCapacity}
@@ -137,7 +137,7 @@ module _ (k : Kept) (f : Frame) (w : Option Whole) (a : Account) (p : IsAccepted
         ∙ ap (λ (x : State). record x { table = k.state.table }) (sym ready.state)
 
     seen-on : m.state ≡ record (seen b) { table = m.state.table }
-    seen-on = seen-opened ∙ ap (λ (t : hpack.State). record (seen b) { table = t }) (sym (ap (λ (x : State). x.table) seen-opened))
+    seen-on = seen-opened ∙ ap (λ (t : hpack.TableState). record (seen b) { table = t }) (sym (ap (λ (x : State). x.table) seen-opened))
 
     client : m.client ≡ b.client
     client = o2.client ∙ o1.client ∙ role ∙ sym (opening-client f a)

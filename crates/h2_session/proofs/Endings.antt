@@ -9,7 +9,7 @@ use Rattle.h2_model.specs.declared.answers.SessionFault.TheVariants.{Code, Memor
 use Rattle.h2_model.specs.Queue.{Waiting, fresh, is_free}
 use Rattle.h2_model.specs.Account.{Account, is_headless}
 use Rattle.h2_model.specs.History as history
-use Rattle.h2_model.specs.History.{frame_in, violated}
+use Rattle.h2_model.specs.History.{violated}
 use Rattle.h2_model.specs.State.{State, seen}
 use Rattle.h2_laws_log.specs.Becomes.{Becomes}
 use Rattle.h2_laws_log.specs.Calling.{failing}

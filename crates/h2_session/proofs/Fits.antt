@@ -24,12 +24,9 @@ use Rattle.h2_streams.proofs.Accounted.{connection, credited, increased}
 use Rattle.h2_session.specs.Steps.{CanCount, CanTake, IsAbsorbed, IsWhole, ending, event_by}
 use Rattle.h2_session.specs.declared.judging.Whole.{Whole}
 use Rattle.h2_session.proofs.Judged.{its-stream, its-unreturned, some}
+use Rattle.h2_laws_log.proofs.Arrives.{row}
 
 -- The rows that don't hold
-
-row : (x : Bool) (c : ℕ) (rest : Option ℕ) → (if x then Some c else rest) ≡ None → (x ≡ false) × (rest ≡ None)
-row true c rest e = absurd cc
-row false c rest e = (refl, e)
 
 pub record Passes (a : Account) (f : Frame) : Type 0 where
   pub widens : widens_connection a f ≡ false

@@ -5,7 +5,7 @@ use Rattle.h2_frames.specs.declared.frame.Frame.{Frame}
 use Rattle.h2_frames.specs.declared.frame.Frame.TheVariants as frame
 use Rattle.h2_model.specs.declared.stream.Stream.{Stream}
 use Rattle.h2_model.specs.Blocks.{OpenBlock}
-use Rattle.h2_streams.proofs.Rows.{code_of}
+use Rattle.h2_streams.specs.Rows.{code_of}
 use Rattle.h2_laws_log.specs.Calling.{failing}
 use Rattle.h2_model.specs.Numbers.{Numbers, has, may_have, last_of, with_number}
 use Rattle.h2_laws_kept.specs.Kept.{Kept, IsSame}

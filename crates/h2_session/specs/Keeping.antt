@@ -4,8 +4,7 @@ use Rattle.h2_frames.specs.declared.frame.Frame.{Frame}
 use Rattle.h2_frames.specs.declared.frame.Frame.TheVariants as frame
 use Rattle.h2_model.specs.declared.stream.Stream.{Stream}
 use Rattle.h2_model.specs.Moves.{sending, queueing}
-use Rattle.h2_model.specs.State.{State}
-use Rattle.h2_model.proofs.Lives.{found}
+use Rattle.h2_model.specs.State.{State, found}
 use Rattle.h2_laws_log.specs.Calling.{heading}
 use Rattle.h2_streams.specs.Changes.{Counts}
 use Rattle.h2_streams.specs.declared.changes.Change.TheVariants.{UpdateGiven}

@@ -26,6 +26,7 @@ use crate::session::Session;
 use ext_msgs::FieldList;
 use h2_frames::Frame;
 use h2_frames::codes::REFUSED_STREAM;
+use h2_frames::protocol::LAST_STREAM;
 use h2_model::{Event, SessionFault};
 use h2_streams::{Change, is_interim};
 use std::alloc::AllocError;
@@ -154,7 +155,7 @@ impl Session {
         ensures capacity { KeepsCapacity self.old self.new }
     {
         // This never comes: the number of a frame has 31 bits.
-        if id >= 1 << 31 {
+        if id > LAST_STREAM {
             return Err(AllocError);
         }
         let full = self.streams.len() >= MOST_STREAMS;

@@ -2,7 +2,7 @@
 
 ghost use Rattle.std.specs.Prelude.{◌≡◌, ◌≤◌, ◌<◌, ◌+◌, ◌-◌, ◌==◌, ◌^◌, ◌||◌, true, false, None, Some, OnOk, pos, ◌+ℤ◌, ◌≤ℤ◌, if◌then◌else◌};
 ghost use Rattle.h2_frames.specs.declared.frame.Frame.TheVariants as frame;
-ghost use Rattle.h2_model.proofs.Lives.{found};
+ghost use Rattle.h2_model.specs.State.{found};
 ghost use Rattle.h2_model.specs.Blocks.{more_of};
 ghost use Rattle.h2_model.specs.Moves.{adjusted, receiving, resetting, with_data, with_increment};
 ghost use Rattle.h2_model.specs.Settings.{least_in, setting_in};
@@ -15,22 +15,13 @@ ghost use Rattle.h2_streams.specs.Changes.{Allows};
 ghost use Rattle.h2_streams.specs.declared.changes.Change.TheVariants.{IncrementCame};
 
 use crate::session::Session;
+use h2_frames::protocol::{
+    HEADER_TABLE_SIZE, INITIAL_WINDOW_SIZE, MAX_CONCURRENT_STREAMS, WIDEST_WINDOW,
+};
 use h2_frames::{Frame, Setting};
 use h2_streams::{Change, PartialBlock, StreamTable};
 use hpack_core::Encoder;
 use std::alloc::AllocError;
-
-/// SETTINGS_HEADER_TABLE_SIZE: RFC 9113 section 6.5.2.
-const HEADER_TABLE_SIZE: u16 = 1;
-
-/// SETTINGS_MAX_CONCURRENT_STREAMS.
-const MAX_CONCURRENT_STREAMS: u16 = 3;
-
-/// SETTINGS_INITIAL_WINDOW_SIZE.
-const INITIAL_WINDOW_SIZE: u16 = 4;
-
-/// The widest sending window: RFC 9113 section 6.9.1.
-const WIDEST: i64 = (1 << 31) - 1;
 
 // Whether the credit of a stream can take an increment.
 fn fits_credit(streams: &StreamTable, id: u32, n: u32) -> bool
@@ -228,7 +219,7 @@ impl Session {
         ensures capacity { KeepsCapacity self.old self.new }
         ensures rooms { KeepsRoom self.old self.new }
     {
-        if self.sender.window() + i64::from(n) <= WIDEST {
+        if self.sender.window() + i64::from(n) <= WIDEST_WINDOW {
             self.sender.widen(n);
         }
     }

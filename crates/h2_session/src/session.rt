@@ -4,13 +4,13 @@ ghost use Rattle.std.specs.Prelude.{◌≡◌, ◌≤◌, ◌<◌, ◌+◌, ◌-
 ghost use Rattle.std.specs.Option.{option_to_list};
 ghost use Rattle.hpack_core.specs.Tables.{kept};
 ghost use Rattle.h2_frames.specs.declared.frame.Frame.TheVariants as frame;
-ghost use Rattle.h2_model.specs.Calls.{Gives, MayHead, Role, can_open, control, is_open_here, kept_streams, now, sendable, unsent_bytes, waits};
+ghost use Rattle.h2_model.specs.Calls.{GivesBytes, MayHead, Role, can_open, control, is_open_here, kept_streams, now, sendable, unsent_bytes, waits};
 ghost use Rattle.h2_model.specs.History.{Call, Feed, Open, Head, Send, Finish, Reset, Take, next_number};
 ghost use Rattle.h2_model.specs.Moves.{giving, giving_all, handing, resetting};
 ghost use Rattle.h2_model.specs.Streams.{is_live};
 ghost use Rattle.h2_model.specs.Windows.{stream_window};
 ghost use Rattle.h2_model.specs.declared.stream.Stream.{Stream};
-ghost use Rattle.h2_model.proofs.Lives.{found};
+ghost use Rattle.h2_model.specs.State.{found};
 ghost use Rattle.h2_sender.specs.Sending.{data_kept};
 ghost use Rattle.h2_session.specs.Bytes.{begun_bytes, kept_bytes};
 ghost use Rattle.h2_session.specs.Keeping.{CanGive, CanGiveWhole, KeepsRoom, KeepsRooms, heading_as, leaves_a_stream, update_in};
@@ -20,9 +20,9 @@ ghost use Rattle.h2_laws_kept.specs.Kept.{IsBeside, IsSame, lacks_head};
 ghost use Rattle.h2_laws_kept.specs.Rooms.{HasSpare, KeepsCapacity};
 ghost use Rattle.h2_laws_kept.specs.StandsFor.{Stands, StandsFor};
 
-use crate::feeding::PREFACE;
 use crate::judging::is_live;
 use ext_msgs::FieldList;
+use h2_frames::protocol::{FIRST_WINDOW, LAST_STREAM, LONGEST_PAYLOAD, PREFACE};
 use h2_frames::{Frame, FrameReader};
 use h2_model::NoStream;
 use h2_sender::{Sender, Taken};
@@ -119,15 +119,6 @@ fn update_in(whole: &Option<Frame>) -> Option<(u32, u32)>
     }
 }
 
-/// How wide windows are at first: RFC 9113 section 6.9.2.
-const FIRST_WINDOW: u32 = 65_535;
-
-/// How many bytes one frame of DATA has at most: no peer may want fewer, RFC 9113 section 4.2.
-const LONGEST_DATA: usize = 16_384;
-
-/// The greatest number of a stream: RFC 9113 section 5.1.1.
-const LAST: u32 = (1 << 31) - 1;
-
 impl Session {
     fn new(alloc: Global, client: bool, kept: u32) -> Result<Session, AllocError>
         ensures { IfOk result (λ s. StandsFor (record { client = client; streams = kept }) s []) }
@@ -198,7 +189,9 @@ impl Session {
     fn may_open(&self) -> bool
         ensures { result ≡ leaves_a_stream self.now }
     {
-        self.streams.len() < self.most as usize && self.numbers.next() <= LAST && !self.goaway
+        self.streams.len() < self.most as usize
+            && self.numbers.next() <= LAST_STREAM
+            && !self.goaway
     }
 
     /// Whether the head of a client's stream wasn't handed over.
@@ -303,7 +296,7 @@ impl Session {
         if window <= 0 {
             return 0;
         }
-        len.min(LONGEST_DATA).min(window as usize) as u32
+        len.min(LONGEST_PAYLOAD as usize).min(window as usize) as u32
     }
 
     // DATA is handed over: it enters the queue, or is held while its stream's head is awaited.
@@ -382,7 +375,7 @@ impl Session {
     pub fn take(&mut self, out: &mut [u8]) -> u32
         requires { length out.old < 2 ^ 32 }
         ensures within { result ≤ length out.old }
-        ensures gives { (r : Role) (h : List Call) → StandsFor r self.old h → Gives (now r h) out.old out.new result }
+        ensures gives { (r : Role) (h : List Call) → StandsFor r self.old h → GivesBytes (now r h) out.old out.new result }
         ensures stands { (r : Role) (h : List Call) → StandsFor r self.old h → StandsFor r self.new (Take result ∷ h) }
     {
         let Taken { bytes, whole } = self.sender.take(out);

@@ -11,11 +11,11 @@ use Rattle.h2_model.specs.Blocks.{OpenBlock}
 use Rattle.h2_model.specs.Codes.{first_row, protocol_error, flow_control_error, stream_closed}
 use Rattle.h2_model.specs.Settings.{initial_window}
 use Rattle.h2_model.specs.Streams.{is_live, opened, live_streams, is_ended_by_peer, heads_got}
-use Rattle.h2_model.specs.State.{stream_of_log, live, live_among, streams}
+use Rattle.h2_model.specs.State.{stream_of_log, live, live_among, streams, found}
 use Rattle.h2_model.specs.StreamFaults.{is_interim, has_upper_case, has_late_pseudo, block_rows, data_rows, update_rows}
 use Rattle.h2_model.specs.Violations.{is_wide_setting}
 use Rattle.h2_model.specs.Windows.{window_from, connection_window, is_too_wide, receiving_window}
-use Rattle.h2_model.proofs.Lives.{found, found-live}
+use Rattle.h2_model.proofs.Lives.{found-live}
 use Rattle.h2_streams.specs.Settings.{is_wide_among}
 
 -- Windows

@@ -7,7 +7,7 @@ use Rattle.h2_model.specs.Blocks.{OpenBlock, Decoded, whole_block, decoded_by, b
 use Rattle.hpack_core.specs.Reading.{block_of}
 use Rattle.h2_model.specs.Codes.{first_row, compression_error, enhance_your_calm}
 use Rattle.h2_model.specs.Violations.{violation_of, is_long_list, is_undecodable}
-use Rattle.h2_streams.specs.Rows.{early_rows, late_rows}
+use Rattle.h2_streams.specs.Rows.{early_rows, late_rows, code_of}
 
 abbrev pub or_row : Option ℕ → List (Bool × ℕ) → Option ℕ
 or_row None rows = first_row rows
@@ -26,15 +26,6 @@ rows-behind (row ∷ rows) more = by row.0 (rows-behind rows more)
 pub violation-parts : (a : Account) (f : Frame) → violation_of a f ≡ or_row (first_row (early_rows a f)) (late_rows a f)
 unfolding violation_of early_rows late_rows
 violation-parts a f = rows-behind (early_rows a f) (late_rows a f)
-
--- The code of what a block is decoded to. Want of memory is none of the peer's faults.
-abbrev pub code_of : Decoded → Option ℕ
-code_of (Ok read) = None
-code_of (Err ListSize) = Some enhance_your_calm
-code_of (Err Memory) = None
-code_of (Err (Prim fault)) = Some compression_error
-code_of (Err (Index place)) = Some compression_error
-code_of (Err (TableSize place)) = Some compression_error
 
 abbrev rows_of : Option Decoded → List (Bool × ℕ)
 rows_of d = (is_long_list d, enhance_your_calm) ∷ (is_undecodable d, compression_error) ∷ []

@@ -3,8 +3,9 @@
 ghost use Rattle.std.specs.Prelude.{◌≡◌, IfSome};
 ghost use Rattle.h2_model.specs.Moves.{new_stream, unless_over};
 ghost use Rattle.h2_streams.specs.Changes.{changed, Allows, Counts, Same};
-ghost use Rattle.h2_streams.specs.Tables.{IsInRange};
+ghost use Rattle.h2_streams.specs.Tables.{HasCreditInRange};
 
+use h2_frames::protocol::FIRST_WINDOW;
 use h2_model::Stream;
 
 /// What happens to a live stream.
@@ -40,7 +41,7 @@ pub(crate) fn new_stream(id: u32) -> Stream
         here_ended: false,
         interim: true,
         credit: 0,
-        receive: 65_535,
+        receive: FIRST_WINDOW,
         unreturned: 0,
     }
 }
@@ -60,7 +61,7 @@ fn unless_over(stream: Stream) -> Option<Stream>
 #[tactic(auto, unfolding(crate::specs::Changes::changed))]
 pub(crate) fn changed(stream: Stream, change: Change) -> Option<Stream>
     requires fits { Allows change stream }
-    requires range { IsInRange stream }
+    requires range { HasCreditInRange stream }
     ensures changed { Counts change stream → result ≡ changed change stream }
     ensures same { IfSome result (Same stream) }
 {

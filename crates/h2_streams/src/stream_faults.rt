@@ -8,7 +8,7 @@ ghost use Rattle.h2_model.specs.Codes.{first_row};
 ghost use Rattle.h2_model.specs.Settings.{initial_window};
 ghost use Rattle.h2_model.specs.State.{stream_of_log};
 ghost use Rattle.h2_model.specs.StreamFaults.{block_rows, data_rows, has_late_pseudo, has_upper_case, is_interim, is_pseudo, update_rows};
-ghost use Rattle.h2_streams.specs.Tables.{IsInRange};
+ghost use Rattle.h2_streams.specs.Tables.{HasCreditInRange};
 
 use crate::violations::is_too_wide;
 use ext_msgs::{Field, FieldList};
@@ -27,7 +27,7 @@ pub fn data_fault(stream: &Stream) -> Option<u32>
 
 // The stream's sending window.
 fn window(stream: &Stream, initial: u32) -> i64
-    requires { IsInRange stream.now }
+    requires { HasCreditInRange stream.now }
     ensures sum { result ≡ pos initial +ℤ stream.now.credit }
     ensures bound { result ≤ℤ pos (2 ^ 41) }
 {
@@ -36,7 +36,7 @@ fn window(stream: &Stream, initial: u32) -> i64
 
 /// WINDOW_UPDATE of 0 (section 6.9), or one that makes the window too wide (section 6.9.1).
 pub fn update_fault(stream: &Stream, initial: u32, n: u32) -> Option<u32>
-    requires { IsInRange stream.now }
+    requires { HasCreditInRange stream.now }
     ensures { (a : Account) → stream.now ≡ stream_of_log stream.now.id a → initial ≡ initial_window a.log → result ≡ first_row (update_rows a stream.now.id n) }
 {
     if n == 0 {

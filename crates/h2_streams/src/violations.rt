@@ -14,10 +14,11 @@ ghost use Rattle.h2_model.specs.Known.{HasOpened};
 use crate::blocks::{LONGEST, PartialBlock};
 use crate::numbers::Numbers;
 use crate::table::StreamTable;
+use h2_frames::protocol::{
+    ENABLE_PUSH, INITIAL_WINDOW_SIZE, LONGEST_PAYLOAD, MAX_FRAME_SIZE, MOST_FRAME_SIZE,
+    WIDEST_WINDOW,
+};
 use h2_frames::{Frame, Setting};
-
-/// The widest sending window: RFC 9113 section 6.9.1.
-const WIDEST: i64 = (1 << 31) - 1;
 
 /// The first frame has to be SETTINGS: section 3.4.
 pub fn is_settings(frame: &Frame) -> bool
@@ -80,8 +81,9 @@ fn is_bad_setting(client: bool, setting: &Setting) -> bool
     ensures { result ≡ is_bad_setting client setting.now }
 {
     let most = if client { 0 } else { 1 };
-    (setting.identifier == 2 && most < setting.value)
-        || (setting.identifier == 5 && (setting.value < 16_384 || 16_777_215 < setting.value))
+    (setting.identifier == ENABLE_PUSH && most < setting.value)
+        || (setting.identifier == MAX_FRAME_SIZE
+            && (setting.value < LONGEST_PAYLOAD || MOST_FRAME_SIZE < setting.value))
 }
 
 /// INITIAL_WINDOW_SIZE that makes a window too wide: sections 6.5.2 and 6.9.2.
@@ -103,7 +105,8 @@ fn any_wide(streams: &StreamTable, list: &[Setting]) -> bool
 fn is_wide_setting(streams: &StreamTable, setting: &Setting) -> bool
     ensures { result ≡ is_wide_among streams.now.streams setting.now }
 {
-    setting.identifier == 4 && (setting.value > 2_147_483_647 || streams.widens(setting.value))
+    setting.identifier == INITIAL_WINDOW_SIZE
+        && (i64::from(setting.value) > WIDEST_WINDOW || streams.widens(setting.value))
 }
 
 /// WINDOW_UPDATE of 0 on the connection: section 6.9.
@@ -118,7 +121,7 @@ pub(crate) fn is_too_wide(window: i64, n: u32) -> bool
     requires { window ≤ℤ pos (2 ^ 41) }
     ensures { result ≡ is_too_wide (window +ℤ pos n) }
 {
-    window + i64::from(n) > WIDEST
+    window + i64::from(n) > WIDEST_WINDOW
 }
 
 /// The connection's window past 2^31 - 1: section 6.9.1.

@@ -2,8 +2,8 @@ use Rattle.std.proofs.Common.{arith, ◌++◌, length-append, sym, ◌∙◌}
 use Rattle.h2_frames.proofs.First.{first_short, refused_by, waits_for}
 use Rattle.h2_frames.proofs.reader.start_of.Goals as goal
 
-pub returns-then-count-lt9 : goal.returns-then-count-lt9
-returns-then-count-lt9 c = first_short (c.args.kept.now ++ c.args.bytes.now) (rw length-append (omega arith))
+pub returns-then-count-lt-HEAD_LEN : goal.returns-then-count-lt-HEAD_LEN
+returns-then-count-lt-HEAD_LEN c = first_short (c.args.kept.now ++ c.args.bytes.now) (rw length-append (omega arith))
 
 pub returns-in-Some : goal.returns-in-Some
 returns-in-Some c =

@@ -8,11 +8,11 @@ part_at-ends-requires c =
     let l = block_length c.args.stream c.args.block.now c.args.last in
     (stands c.args.at (length c.args.block.now) (omega arith)).there
 
-pub copy_frame-requires-clause-size : goal.copy_frame-requires-clause-size
-copy_frame-requires-clause-size c = omega arith
+pub copy_headers-requires-clause-size : goal.copy_headers-requires-clause-size
+copy_headers-requires-clause-size c = omega arith
 
-pub copy_frame-requires-clause-there : goal.copy_frame-requires-clause-there
-copy_frame-requires-clause-there c =
+pub copy_headers-requires-clause-there : goal.copy_headers-requires-clause-there
+copy_headers-requires-clause-there c =
     let l = block_length c.args.stream c.args.block.now c.args.last in
     let s = (stands c.args.at (length c.args.block.now) (omega arith)).within in
     omega arith
@@ -30,7 +30,7 @@ pub returns-then-index-eq0 : goal.returns-then-index-eq0
 returns-then-index-eq0 c =
     let l = block_length c.args.stream c.args.block.now c.args.last in
     let s = stands c.args.at (length c.args.block.now) (omega arith) in
-    copied_first c.args.stream c.args.block.now c.args.last c.args.at c.part_at-ends.result.0.now c.part_at-ends.result.1 c.flags.result c.args.from c.args.out.now c.copy_frame.new.out c.copy_frame.result s c.if-index-eq0.true c.part_at-ends.ensures.part c.part_at-ends.ensures.ends c.flags.ensures c.copy_frame.ensures
+    copied_first c.args.stream c.args.block.now c.args.last c.args.at c.part_at-ends.result.0.now c.part_at-ends.result.1 c.args.from c.args.out.now c.copy_headers.new.out c.copy_headers.result s c.if-index-eq0.true c.part_at-ends.ensures.part c.part_at-ends.ensures.ends c.copy_headers.ensures
 
 pub returns : goal.returns
 returns c =

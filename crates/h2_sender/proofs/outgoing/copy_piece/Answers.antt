@@ -3,8 +3,10 @@ use Rattle.std.proofs.Common.{arith, ◌≡◌, length, drop, Bool, true, ap, sy
 use Rattle.std.proofs.lemmas.List.{take_rest}
 use Rattle.h2_model.specs.History.{preface}
 use Rattle.h2_model.specs.Queue.{bytes_of}
-use Rattle.h2_sender.specs.Outgoing.{IsCopied, written}
-use Rattle.h2_sender.proofs.Copies.{copied_of, copied_more, greeted_at, greeted_behind, greeted_length, written_plain}
+use Rattle.h2_frames.specs.Copied.{IsCopied}
+use Rattle.h2_sender.specs.Outgoing.{written}
+use Rattle.h2_frames.proofs.Copies.{copied_of, copied_more}
+use Rattle.h2_sender.proofs.Copies.{greeted_at, greeted_behind, greeted_length, written_plain}
 use Rattle.h2_sender.proofs.outgoing.copy_piece.Goals as goal
 
 pub copy_bytes-requires-clause-there : goal.copy_bytes-requires-clause-there

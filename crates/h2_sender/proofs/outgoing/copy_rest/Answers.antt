@@ -1,8 +1,10 @@
 -- One piece behind another.
 use Rattle.std.proofs.Common.{arith, ◌≡◌, ◌≤◌, ◌+◌, length, drop, List, ℕ, length-drop, sym}
 use Rattle.std.proofs.lemmas.List.{drop-drop}
-use Rattle.h2_sender.specs.Outgoing.{IsCopied, written}
-use Rattle.h2_sender.proofs.Copies.{copied_next, copied_of}
+use Rattle.h2_frames.specs.Copied.{IsCopied}
+use Rattle.h2_sender.specs.Outgoing.{written}
+use Rattle.h2_frames.proofs.Copies.{copied_of}
+use Rattle.h2_sender.proofs.Copies.{copied_next}
 use Rattle.h2_sender.proofs.outgoing.copy_rest.Goals as goal
 
 pub pieces-preserved : goal.pieces-preserved

@@ -1,6 +1,6 @@
 -- The stream that is found is the live one.
 use Rattle.std.proofs.Common.{◌≡◌, sym, ◌∙◌, ap, rules}
-use Rattle.h2_model.proofs.Lives.{found}
+use Rattle.h2_model.specs.State.{found}
 use Rattle.h2_streams.proofs.Accounted.{looked, exceeds_by, exceeded}
 use Rattle.h2_streams.proofs.violations.exceeds_stream.Goals as goal
 
