@@ -1,4 +1,4 @@
-//! Plays what HTTP/2 is spelled with by a script: HPACK's integers and Huffman strings, and header blocks. A line is one of
+//! Plays what HTTP/2 is spelled with by a script: HPACK's integers and Huffman strings, header blocks, and frames. A line is one of
 //!
 //! | line | does |
 //! |---|---|
@@ -14,6 +14,9 @@
 //! | `limit N` | the peer's limit of that encoder's table |
 //! | `write FIELDS` | the encoder's next block |
 //! | `write-and-read FIELDS` | that block, and the fields that the decoder reads from it |
+//! | `frames BYTES` | a new reader gets the bytes in pieces of each length: the frames that they are, and how many bytes are left, or the code of a refusal and `at` which byte it comes, byte by byte |
+//! | `reader` | begins a reader of frames |
+//! | `feed BYTES` | that reader gets the bytes as one piece: the same, and how many bytes it keeps |
 //! | `# ..` | a heading |
 //!
 //! Bytes are words of hexadecimal digits, each of which may be repeated, as `00*3`; `00*0` is none. Fields are `NAME=VALUE`, with a value in hexadecimal digits
@@ -21,17 +24,20 @@
 #![tactic(auto)]
 
 mod blocks;
+mod frames;
 mod play;
 mod prims;
 mod text;
 
 use anyhow::Result;
 use blocks::Coders;
+use h2_frames::FrameReader;
 
 fn main(rt: HostRuntime) -> Result<()> {
     let mut coders = Coders::new(rt.alloc())?;
+    let mut reader = FrameReader::new(rt.alloc())?;
     for line in rt.lines(rt.alloc()) {
-        let told = play::line(rt.alloc(), &mut coders, line?.as_str())?;
+        let told = play::line(rt.alloc(), &mut coders, &mut reader, line?.as_str())?;
         println!(rt; "{told}")?;
     }
     Ok(())

@@ -1,17 +1,29 @@
 //! The lines of a script.
 
 use crate::blocks::Coders;
-use crate::prims;
 use crate::text::bytes_of;
+use crate::{frames, prims};
 use anyhow::{Result, bail};
+use h2_frames::FrameReader;
 use std::alloc::Global;
 
 /// What a line tells; it tells itself where there is nothing else to tell.
-pub fn line(alloc: Global, coders: &mut Coders, line: &str) -> Result<String> {
+pub fn line(
+    alloc: Global,
+    coders: &mut Coders,
+    reader: &mut FrameReader,
+    line: &str,
+) -> Result<String> {
     let mut told = String::new(alloc);
     let (word, text) = line.split_once(' ').unwrap_or((line, ""));
     match word {
         "#" => told.push_str(line)?,
+        "frames" => frames::in_any_cut(alloc, &mut told, bytes_of(alloc, text)?.as_slice())?,
+        "reader" => {
+            *reader = FrameReader::new(alloc)?;
+            told.push_str(line)?;
+        }
+        "feed" => frames::one_piece(alloc, reader, &mut told, bytes_of(alloc, text)?.as_slice())?,
         "int" => prims::int(alloc, &mut told, text)?,
         "write-int" => prims::written_int(alloc, &mut told, text)?,
         "huffman" => prims::huffman(alloc, &mut told, text)?,

@@ -1,115 +1,117 @@
 //! The lines of a script.
 
-use crate::client::asking;
+use crate::calls::call;
+use crate::end::End;
+use crate::text::{add, bytes_of, last_word};
 use anyhow::{Result, bail};
-use h2_session::{Event, Session, SessionFault};
+use h2_session::Event;
 use std::alloc::Global;
 
-/// The most bytes of a line, and the most events that they bring.
+/// The most events that bytes bring, and the most calls that give what goes out.
 const MOST: usize = 1_000_000;
 
 /// How many bytes of content are written.
 const SHOWN: usize = 16;
 
-/// Plays a line.
-pub fn line(rt: &HostRuntime, session: &mut Session, line: &str) -> Result<()> {
-    if line == "server" {
-        *session = Session::server(rt.alloc())?;
-        return skip(session);
-    }
-    if line == "client" {
-        *session = asking(rt.alloc())?;
-        return skip(session);
-    }
-    if line == "out" {
-        let out = taken(rt.alloc(), session)?;
-        let digits = hex::encode(rt.alloc(), out.as_slice())?;
-        println!(rt; "out {digits}")?;
-        return Ok(());
-    }
-    match line.strip_prefix("in ") {
-        Some(text) => give(rt, session, bytes_of(rt.alloc(), text)?.as_slice()),
-        None => Ok(println!(rt; "{line}")?),
+// The end that a line begins.
+fn begun(alloc: Global, word: &str) -> Result<Option<End>> {
+    match word {
+        "server" => Ok(Some(skip(alloc, End::server(alloc)?)?)),
+        "client" => Ok(Some(skip(alloc, asking(alloc)?)?)),
+        "new-server" => Ok(Some(End::server(alloc)?)),
+        "new-client" => Ok(Some(End::client(alloc)?)),
+        "opened" => Ok(Some(End::opened(alloc)?)),
+        _ => Ok(None),
     }
 }
 
-// The bytes of hexadecimal digits, behind which may stand how often they come.
-fn bytes_of(alloc: Global, text: &str) -> Result<Vec<u8>> {
-    let (digits, times) = text.split_once(' ').unwrap_or((text, "1"));
-    let Ok(once) = hex::decode(alloc, digits) else {
-        bail!("no bytes: {digits}");
-    };
-    let mut bytes = Vec::new(alloc);
-    for _ in 0..times.parse::<u32>()? {
-        bytes.extend_from_slice(once.as_slice())?;
+/// The end behind a line, and the lines that it writes.
+pub fn line(alloc: Global, end: End, line: &str) -> Result<(End, String)> {
+    let mut told = String::new(alloc);
+    let (word, rest) = line.split_once(' ').unwrap_or((line, ""));
+    if let Some(new) = begun(alloc, word)? {
+        return Ok((new, told));
     }
-    Ok(bytes)
+    if word == "in" {
+        let bytes = bytes_of(alloc, rest)?;
+        let end = give(alloc, end, &mut told, bytes.as_slice())?;
+        return Ok((end, told));
+    }
+    let mut end = end;
+    call(alloc, &mut end, &mut told, line)?;
+    Ok((end, told))
 }
 
-// Gives bytes to a session, and writes what they bring.
-fn give(rt: &HostRuntime, session: &mut Session, bytes: &[u8]) -> Result<()> {
+// A client's end that handed two requests over, of which the bodies go on.
+fn asking(alloc: Global) -> Result<End> {
+    let mut end = End::opened(alloc)?;
+    end.head(alloc, 1, 0, false)?;
+    end.head(alloc, 3, 0, false)?;
+    Ok(end)
+}
+
+// What goes out at first isn't written.
+fn skip(alloc: Global, end: End) -> Result<End> {
+    let mut end = end;
+    let mut out = Vec::new(alloc);
+    for _ in 0..MOST {
+        if end.take(&mut out, 64)? == 0 {
+            return Ok(end);
+        }
+    }
+    bail!("too many bytes go out")
+}
+
+// Gives bytes to an end, and writes what they bring.
+fn give(alloc: Global, end: End, told: &mut String, bytes: &[u8]) -> Result<End> {
+    let mut end = end;
     let mut rest = bytes;
     for _ in 0..MOST {
-        if rest.len() > MOST {
-            bail!("too many bytes");
-        }
-        match session.feed(rest) {
+        let (behind, brought) = end.feed(rest)?;
+        end = behind;
+        match brought {
             Ok(fed) => {
-                if !tell(rt, fed.event)? {
-                    return Ok(());
+                if !tell(alloc, told, fed.event)? {
+                    return Ok(end);
                 }
-                let (_, behind) = rest.split_at(fed.used as usize);
+                let (_, behind) = rest.split_at((fed.used as usize).min(rest.len()));
                 rest = behind;
             }
-            Err(SessionFault::Code(code)) => {
-                println!(rt; "refused {code}")?;
-                return Ok(());
+            Err(code) => {
+                add(alloc, told, "refused ", u64::from(code))?;
+                told.push('\n')?;
+                return Ok(end);
             }
-            Err(SessionFault::Memory) => bail!("out of memory"),
         }
     }
     bail!("too many events")
 }
 
 // Writes an event, and says whether it is one.
-fn tell(rt: &HostRuntime, event: Event) -> Result<bool> {
+fn tell(alloc: Global, told: &mut String, event: Event) -> Result<bool> {
     match event {
         Event::Nothing => return Ok(false),
         Event::Head(id, fields, last) => {
-            println!(rt; "head {id} fields {} last {last}", fields.len())?;
+            add(alloc, told, "head ", u64::from(id))?;
+            add(alloc, told, " fields ", fields.len())?;
+            told.push_str(last_word(last))?;
         }
         Event::Data(id, content, last) => {
+            add(alloc, told, "data ", u64::from(id))?;
             let (first, _) = content.bytes().split_at(content.len().min(SHOWN));
-            let digits = hex::encode(rt.alloc(), first)?;
-            println!(rt; "data {id} {digits} of {} last {last}", content.len())?;
+            told.push(' ')?;
+            told.push_str(hex::encode(alloc, first)?.as_str())?;
+            add(alloc, told, " of ", content.len() as u64)?;
+            told.push_str(last_word(last))?;
         }
-        Event::Reset(id, code) => println!(rt; "reset {id} {code}")?,
-        Event::GoAway(last, code) => println!(rt; "goaway {last} {code}")?,
+        Event::Reset(id, code) => pair(alloc, told, "reset ", id, code)?,
+        Event::GoAway(last, code) => pair(alloc, told, "goaway ", last, code)?,
     }
+    told.push('\n')?;
     Ok(true)
 }
 
-// All bytes that wait.
-fn taken(alloc: Global, session: &mut Session) -> Result<Vec<u8>> {
-    let mut out = Vec::new(alloc);
-    let mut room = [0u8; 64];
-    for _ in 0..MOST {
-        let n = session.take(&mut room[..64]) as usize;
-        if n == 0 {
-            return Ok(out);
-        }
-        out.extend_from_slice(&room[..n])?;
-    }
-    bail!("too many bytes go out")
-}
-
-// What goes out at first isn't written.
-fn skip(session: &mut Session) -> Result<()> {
-    let mut room = [0u8; 64];
-    for _ in 0..MOST {
-        if session.take(&mut room[..64]) == 0 {
-            return Ok(());
-        }
-    }
-    bail!("too many bytes go out")
+fn pair(alloc: Global, told: &mut String, word: &str, first: u32, second: u32) -> Result<()> {
+    add(alloc, told, word, u64::from(first))?;
+    add(alloc, told, " ", u64::from(second))
 }

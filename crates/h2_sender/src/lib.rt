@@ -10,8 +10,6 @@ mod places;
 mod queue;
 mod sender;
 mod sums;
-#[cfg(test)]
-mod tests;
 
 pub use queue::Taken;
 pub use sender::Sender;

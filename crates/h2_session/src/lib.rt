@@ -12,8 +12,6 @@ mod judging;
 mod owing;
 mod receiving;
 mod session;
-#[cfg(test)]
-mod tests;
 
 pub use h2_model::{Event, Fed, NoStream, SessionFault};
 pub use session::Session;

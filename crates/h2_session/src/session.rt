@@ -36,7 +36,7 @@ use std::marker::Model;
 /// One end of a connection. It stands for the history of its calls.
 ///
 /// After a connection error `head`, `send`, `finish` and `reset` do nothing, and `take` gives what is left, GOAWAY last.
-#[derive(Debug, Drop)]
+#[derive(Drop)]
 pub struct Session {
     pub(crate) alloc: Global,
     pub(crate) client: bool,

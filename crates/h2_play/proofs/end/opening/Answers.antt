@@ -2,7 +2,7 @@
 use Rattle.std.proofs.Common.{◌<◌, true, List, [], ◌∷◌, length, refl, arith}
 use Rattle.h2_model.specs.Calls.{Role, kept_streams, now}
 use Rattle.h2_model.specs.History.{Call, Open, account, called, noted, start}
-use Rattle.h2_play.proofs.client.opening.Goals as goal
+use Rattle.h2_play.proofs.end.opening.Goals as goal
 
 abbrev role : Role
 role = record { client = true; streams = 2 }
