@@ -35,7 +35,7 @@ pub struct Config {
 }
 
 /// Why a configuration is refused. A key inside an object is named with a dot, as `mutation_rules.allow_envoy`.
-#[derive(Debug, Drop)]
+#[derive(Drop)]
 pub enum ConfigFault {
     /// The bytes are no JSON, or no object.
     Json,

@@ -5,8 +5,6 @@ mod config;
 mod keys;
 mod reading;
 mod sections;
-#[cfg(test)]
-mod tests;
 mod unknown;
 mod values;
 

@@ -12,8 +12,6 @@ mod stage;
 mod status;
 mod step;
 mod streams;
-#[cfg(test)]
-mod tests;
 mod texts;
 mod top;
 mod words;

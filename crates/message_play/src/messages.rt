@@ -76,15 +76,23 @@ fn tell_common(rt: &HostRuntime, part: &str, common: &Common) -> Result<()> {
     tell_mutation(rt, &common.headers)?;
     match &common.body {
         BodyChange::Absent => Ok(()),
-        BodyChange::Bytes(bytes) => tell_body(rt, "body", bytes, true),
+        BodyChange::Bytes(bytes) => tell_body(rt, bytes),
         BodyChange::Clear(clear) => Ok(println!(rt; "clear {clear}")?),
-        BodyChange::Streamed(bytes, last) => tell_body(rt, "streamed", bytes, *last),
+        BodyChange::Streamed(bytes, last) => {
+            tell_last(rt, "streamed", *last)?;
+            tell_body(rt, bytes)
+        }
     }
 }
 
-fn tell_body(rt: &HostRuntime, kind: &str, bytes: &Blob, last: bool) -> Result<()> {
+fn tell_last(rt: &HostRuntime, part: &str, last: bool) -> Result<()> {
+    println!(rt; "{part} last {last}")?;
+    Ok(())
+}
+
+fn tell_body(rt: &HostRuntime, bytes: &Blob) -> Result<()> {
     let text = shown(bytes)?;
-    println!(rt; "{kind} {text} last {last}")?;
+    println!(rt; "body '{text}'")?;
     Ok(())
 }
 
@@ -104,18 +112,31 @@ fn tell_mutation(rt: &HostRuntime, mutation: &HeaderMutation) -> Result<()> {
 
 fn tell_ask(rt: &HostRuntime, ask: &Ask) -> Result<()> {
     match ask {
-        Ask::RequestHeaders(fields, last) => tell_headers(rt, "request headers", fields, *last),
-        Ask::ResponseHeaders(fields, last) => tell_headers(rt, "response headers", fields, *last),
-        Ask::RequestBody(bytes, last) => tell_body(rt, "request body", bytes, *last),
-        Ask::ResponseBody(bytes, last) => tell_body(rt, "response body", bytes, *last),
-        Ask::RequestTrailers(fields) => tell_headers(rt, "request trailers", fields, true),
-        Ask::ResponseTrailers(fields) => tell_headers(rt, "response trailers", fields, true),
+        Ask::RequestHeaders(fields, last) => {
+            tell_last(rt, "request headers", *last)?;
+            tell_fields(rt, fields)
+        }
+        Ask::ResponseHeaders(fields, last) => {
+            tell_last(rt, "response headers", *last)?;
+            tell_fields(rt, fields)
+        }
+        Ask::RequestBody(bytes, last) => {
+            tell_last(rt, "request body", *last)?;
+            tell_body(rt, bytes)
+        }
+        Ask::ResponseBody(bytes, last) => {
+            tell_last(rt, "response body", *last)?;
+            tell_body(rt, bytes)
+        }
+        Ask::RequestTrailers(fields) => {
+            tell(rt, "request trailers")?;
+            tell_fields(rt, fields)
+        }
+        Ask::ResponseTrailers(fields) => {
+            tell(rt, "response trailers")?;
+            tell_fields(rt, fields)
+        }
     }
-}
-
-fn tell_headers(rt: &HostRuntime, part: &str, fields: &FieldList, last: bool) -> Result<()> {
-    println!(rt; "{part} last {last}")?;
-    tell_fields(rt, fields)
 }
 
 /// Writes fields, a line each.

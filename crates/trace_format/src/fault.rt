@@ -3,7 +3,7 @@
 use std::alloc::AllocError;
 
 /// Why a line isn't read.
-#[derive(Clone, Copy, Debug, PartialEq, Eq)]
+#[derive(Clone, Copy)]
 pub enum LineFault {
     /// It is no line of a trace.
     Bad,

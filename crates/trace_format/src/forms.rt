@@ -173,7 +173,7 @@ pub fn close(rest: Option<&[u8]>) -> Option<(u32, bool)>
 }
 
 /// A port from which nothing is taken any more, or again.
-#[derive(Clone, Copy, Debug, PartialEq, Eq)]
+#[derive(Clone, Copy)]
 pub enum Port {
     Client(u32),
     Up(u32),

@@ -30,8 +30,6 @@ mod numbers;
 mod out;
 mod parts;
 mod read;
-#[cfg(test)]
-mod tests;
 mod word;
 
 pub use fault::LineFault;

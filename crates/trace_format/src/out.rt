@@ -19,7 +19,7 @@ use pb_wire::Blob;
 use std::alloc::{AllocError, Global};
 
 /// A line of a transcript. The number is that of an exchange.
-#[derive(Debug, Drop)]
+#[derive(Drop)]
 pub enum OutLine {
     ToClient(u32, Blob),
     ToUp(u32, Blob),
