@@ -5,7 +5,7 @@ use Rattle.std.proofs.lemmas.Bool.Decides.{nat_tests}
 use Rattle.std.specs.Prelude.{slice_index}
 use Rattle.h2_frames.specs.Numbers.{u32_at}
 use Rattle.grpc_call.specs.declared.fault.CallFault.{CallFault}
-use Rattle.grpc_call.specs.Framed.{First, Unfinished, Refused, Whole, first, first_unless, prefix_fault}
+use Rattle.grpc_call.specs.Framed.{Beginning, Unfinished, Refused, Whole, first, first_unless, prefix_fault}
 use Rattle.grpc_call.specs.Keeping.{IsParted, IsKept}
 use Rattle.grpc_call.proofs.Prefixes.{front, size_front, none_short}
 
@@ -32,7 +32,7 @@ parted_long limit prefix message bytes fault size parted long f s =
     let number : u32_at all 1 ≡ size = size_front prefix message bytes parted long ∙ sym s in
     let flag : slice_index all 0 ≡ slice_index (prefix ++ bytes) 0 = front prefix message bytes parted long 0 (omega arith) in
     let same : prefix_fault limit (slice_index all 0) (u32_at all 1) ≡ fault =
-        (λ i. prefix_fault limit (flag i) (size_front prefix message bytes parted long i)) ∙ sym f in
+    (λ i. prefix_fault limit (flag i) (size_front prefix message bytes parted long i)) ∙ sym f in
     first_long limit all (omega arith) ∙ (λ i. first_unless (same i) (number i) all)
 
 pub unless_short : (size : ℕ) (bytes : List ℕ) → length bytes < 5 + size → first_unless None size bytes ≡ Unfinished

@@ -89,7 +89,7 @@ ended limit size used prefix message bytes kept w l u =
     let not_yet = not_before limit (prefix ++ message) bytes _ kept.waits w in
     let rest : used ≡ 5 + size - length (prefix ++ message) = omega arith in
     let is : drop 5 (prefix ++ message ++ take used bytes) ≡ take size (drop 5 (prefix ++ message ++ bytes)) =
-        ap (λ n. drop 5 (prefix ++ message ++ take n bytes)) rest ∙ message_is size (prefix ++ message) bytes (omega arith) in
+    ap (λ n. drop 5 (prefix ++ message ++ take n bytes)) rest ∙ message_is size (prefix ++ message) bytes (omega arith) in
     let behind = length-drop 5 (prefix ++ message ++ bytes) in
     let len : length (drop 5 (prefix ++ message ++ take used bytes)) ≡ size = ap length is ∙ length-take-le size (drop 5 (prefix ++ message ++ bytes)) (omega arith) in
     record { before = omega arith; enough = omega arith; whole = w ∙ ap Whole (sym is); used_is = rest ∙ ap (λ n. 5 + n - length (prefix ++ message)) (sym len) }

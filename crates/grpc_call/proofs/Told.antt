@@ -12,9 +12,9 @@ use Rattle.grpc_call.specs.declared.fault.CallFault.{CallFault}
 use Rattle.grpc_call.specs.declared.fault.CallFault.TheVariants.{Head, Compressed, TooLong, Cut, NoStatus, Memory}
 use Rattle.grpc_call.specs.declared.heads.Block.{Block}
 use Rattle.grpc_call.specs.declared.heads.Block.TheVariants.{Skips, Begins, Ends, Refuses}
-use Rattle.grpc_call.specs.Framed.{First, Unfinished, Refused, Whole, first, Framed, framed, framed_by}
+use Rattle.grpc_call.specs.Framed.{Beginning, Unfinished, Refused, Whole, first, Framed, framed, framed_by}
 use Rattle.grpc_call.specs.Blocks.{block_of, ended_with, first_value, is_call_type, is_right_status, is_some_byte, status_of}
-use Rattle.grpc_call.specs.Reading.{Response, begun, block_in, headed_by, told_by, ended_behind, Taken, Keeps, Gives, Fails, taken, taken_by, Reads}
+use Rattle.grpc_call.specs.Reading.{Response, begun, block_in, headed_by, told_by, ended_behind, Taken, Keeps, Gives, Fails, taken, taken_by, ReadsData}
 use Rattle.grpc_call.specs.Items.{Item, Message, LongMessage, Closed, Ending, Status, Failed, Heard, with_block, with_data, with_event, unless_over, heard, closing, last_items, items_of, items, StandsFor, told_of, IsOver, HeadTold, DataTold}
 use Rattle.grpc_call.proofs.First.{first_short, IsWhole, whole_says}
 use Rattle.grpc_call.proofs.Messages.{not_before}
@@ -22,7 +22,7 @@ use Rattle.grpc_call.proofs.Cuts.{first_stays, message_size, framed_is, after, A
 
 pub begins : (limit : ℕ) → StandsFor (begun limit) []
 begins limit =
-    let none = framed_is limit [] ∙ ap (λ (x : First). framed_by x [] (λ rest. framed limit rest)) (first_short limit [] (omega arith)) in
+    let none = framed_is limit [] ∙ ap (λ (x : Beginning). framed_by x [] (λ rest. framed limit rest)) (first_short limit [] (omega arith)) in
     record { headed = refl; rest = sym (ap (λ (f : Framed). f.rest) none); right = ap (λ (f : Framed). f.fault) none; goes_on = refl }
 
 -- a stream that goes on hears an event
@@ -76,7 +76,7 @@ stands r events id bytes rest ms s h e =
       headed = h ∙ sym (ap (λ (x : Heard). x.headed) now);
       rest = sym (ap (λ (x : Framed). x.rest) f);
       right = ap (λ (x : Framed). x.fault) f;
-      goes_on = ap (λ (x : Heard). x.ending) now
+      goes_on = ap (λ (x : Heard). x.ending) now;
     }
 
 -- what is taken, case by case
@@ -88,13 +88,13 @@ record IsKeeping (r : Response) (bytes : List ℕ) (last : Bool) : Type 0 where
 keeping : (r : Response) (bytes : List ℕ) (last : Bool) → taken r bytes last ≡ Keeps → IsKeeping r bytes last
 keeping r bytes last e = by_head r.headed refl (first r.limit (r.rest ++ bytes)) refl last e
   where
-    by_first : (x : First) → first r.limit (r.rest ++ bytes) ≡ x → r.headed ≡ true → (l : Bool) → taken_by x r bytes l ≡ Keeps → IsKeeping r bytes l
+    by_first : (x : Beginning) → first r.limit (r.rest ++ bytes) ≡ x → r.headed ≡ true → (l : Bool) → taken_by x r bytes l ≡ Keeps → IsKeeping r bytes l
     by_first Unfinished f h false e = record { headed = h; waits = f; open_still = refl }
     by_first Unfinished f h true e = absurd cc
     by_first (Refused x) f h l e = absurd cc
     by_first (Whole m) f h l e = absurd cc
 
-    by_head : (b : Bool) → r.headed ≡ b → (x : First) → first r.limit (r.rest ++ bytes) ≡ x → (l : Bool) → (if b then taken_by x r bytes l else Fails Head) ≡ Keeps → IsKeeping r bytes l
+    by_head : (b : Bool) → r.headed ≡ b → (x : Beginning) → first r.limit (r.rest ++ bytes) ≡ x → (l : Bool) → (if b then taken_by x r bytes l else Fails Head) ≡ Keeps → IsKeeping r bytes l
     by_head true h x f l e = by_first x f h l e
     by_head false h x f l e = absurd cc
 
@@ -106,7 +106,7 @@ record IsGiving (r : Response) (bytes message : List ℕ) (used : ℕ) : Type 0 
 giving : (r : Response) (bytes : List ℕ) (last : Bool) (message : List ℕ) (used : ℕ) → taken r bytes last ≡ Gives message used → IsGiving r bytes message used
 giving r bytes last message used e = by_head r.headed refl (first r.limit (r.rest ++ bytes)) refl last e
   where
-    by_first : (x : First) → first r.limit (r.rest ++ bytes) ≡ x → r.headed ≡ true → (l : Bool) → taken_by x r bytes l ≡ Gives message used → IsGiving r bytes message used
+    by_first : (x : Beginning) → first r.limit (r.rest ++ bytes) ≡ x → r.headed ≡ true → (l : Bool) → taken_by x r bytes l ≡ Gives message used → IsGiving r bytes message used
     by_first Unfinished f h false e = absurd cc
     by_first Unfinished f h true e = absurd cc
     by_first (Refused x) f h l e = absurd cc
@@ -115,7 +115,7 @@ giving r bytes last message used e = by_head r.headed refl (first r.limit (r.res
         let number : 5 + length m - length r.rest ≡ used = cc in
         record { headed = h; whole = f ∙ ap Whole same; used_is = sym number ∙ ap (λ (b : List ℕ). 5 + length b - length r.rest) same }
 
-    by_head : (b : Bool) → r.headed ≡ b → (x : First) → first r.limit (r.rest ++ bytes) ≡ x → (l : Bool) → (if b then taken_by x r bytes l else Fails Head) ≡ Gives message used → IsGiving r bytes message used
+    by_head : (b : Bool) → r.headed ≡ b → (x : Beginning) → first r.limit (r.rest ++ bytes) ≡ x → (l : Bool) → (if b then taken_by x r bytes l else Fails Head) ≡ Gives message used → IsGiving r bytes message used
     by_head true h x f l e = by_first x f h l e
     by_head false h x f l e = absurd cc
 
@@ -127,21 +127,21 @@ pub data Failing (r : Response) (bytes : List ℕ) (last : Bool) (fault : CallFa
 failing : (r : Response) (bytes : List ℕ) (last : Bool) (fault : CallFault) → taken r bytes last ≡ Fails fault → Failing r bytes last fault
 failing r bytes last fault e = by_head r.headed refl (first r.limit (r.rest ++ bytes)) refl last e
   where
-    by_first : (x : First) → first r.limit (r.rest ++ bytes) ≡ x → r.headed ≡ true → (l : Bool) → taken_by x r bytes l ≡ Fails fault → Failing r bytes l fault
+    by_first : (x : Beginning) → first r.limit (r.rest ++ bytes) ≡ x → r.headed ≡ true → (l : Bool) → taken_by x r bytes l ≡ Fails fault → Failing r bytes l fault
     by_first Unfinished f h false e = absurd cc
     by_first Unfinished f h true e = ended_early h f refl (cc)
     by_first (Refused x) f h l e = let same : x ≡ fault = cc in refusing h (f ∙ ap Refused same)
     by_first (Whole m) f h l e = absurd cc
 
-    by_head : (b : Bool) → r.headed ≡ b → (x : First) → first r.limit (r.rest ++ bytes) ≡ x → (l : Bool) → (if b then taken_by x r bytes l else Fails Head) ≡ Fails fault → Failing r bytes l fault
+    by_head : (b : Bool) → r.headed ≡ b → (x : Beginning) → first r.limit (r.rest ++ bytes) ≡ x → (l : Bool) → (if b then taken_by x r bytes l else Fails Head) ≡ Fails fault → Failing r bytes l fault
     by_head true h x f l e = by_first x f h l e
     by_head false h x f l e = headless h (cc)
 
 unfinished_is : (limit : ℕ) (bytes : List ℕ) → first limit bytes ≡ Unfinished → framed limit bytes ≡ record { messages = []; rest = bytes; fault = None }
-unfinished_is limit bytes e = framed_is limit bytes ∙ ap (λ (x : First). framed_by x bytes (λ rest. framed limit rest)) e
+unfinished_is limit bytes e = framed_is limit bytes ∙ ap (λ (x : Beginning). framed_by x bytes (λ rest. framed limit rest)) e
 
 refused_is : (limit : ℕ) (bytes : List ℕ) (fault : CallFault) → first limit bytes ≡ Refused fault → framed limit bytes ≡ record { messages = []; rest = bytes; fault = Some fault }
-refused_is limit bytes fault e = framed_is limit bytes ∙ ap (λ (x : First). framed_by x bytes (λ rest. framed limit rest)) e
+refused_is limit bytes fault e = framed_is limit bytes ∙ ap (λ (x : Beginning). framed_by x bytes (λ rest. framed limit rest)) e
 
 -- the message is there with the bytes that are used
 by_used : (limit : ℕ) (rest bytes message : List ℕ) (used : ℕ) → first limit rest ≡ Unfinished → first limit (rest ++ bytes) ≡ Whole message
@@ -216,18 +216,21 @@ fails r events id bytes last fault s (ended_early h w l e) =
     ∙ ap (λ x. items r.limit events ++ (x ∷ [])) (sym (told_early r.rest bytes)) ∙ ap (λ x. items r.limit events ++ (told_of x ∷ [])) (sym e)
 
 pub of_data : (r new : Response) (events : List Event) (id : ℕ) (bytes : List ℕ) (last : Bool) (result : Result (Option (List ℕ × ℕ)) CallFault)
-    → StandsFor r events → Reads r bytes last result new → DataTold r events id bytes last result new
+    → StandsFor r events → ReadsData r bytes last result new → DataTold r events id bytes last result new
 of_data r new events id bytes last (Ok None) s (t, n) =
     let k = keeping r bytes last t in
-    let g = unfinished_is r.limit (r.rest ++ bytes) k.waits in
-    (k.open_still, subst (λ x. StandsFor x (event.Data id bytes false ∷ events)) (sym n) (stands r events id bytes (r.rest ++ bytes) [] s k.headed g),
-      brings r events id bytes false _ s k.headed g ∙ append-nil (items r.limit events))
+    let g = unfinished_is r.limit (r.rest ++ bytes) k.waits in (
+      k.open_still,
+      subst (λ x. StandsFor x (event.Data id bytes false ∷ events)) (sym n) (stands r events id bytes (r.rest ++ bytes) [] s k.headed g),
+      brings r events id bytes false _ s k.headed g ∙ append-nil (items r.limit events),
+    )
 of_data r new events id bytes last (Ok (Some (message, used))) s (t, l, n) =
     let k = giving r bytes last message used t in
     let waits = subst (λ b. first r.limit b ≡ Unfinished) (sym s.rest) ((added r.limit (heard events).content []).waits s.right) in
-    let g = by_used r.limit r.rest bytes message used waits k.whole k.used_is l in
-    (subst (λ x. StandsFor x (event.Data id (take used bytes) false ∷ events)) (sym n) (stands r events id (take used bytes) [] (message ∷ []) s k.headed g),
-      brings r events id (take used bytes) false _ s k.headed g)
+    let g = by_used r.limit r.rest bytes message used waits k.whole k.used_is l in (
+      subst (λ x. StandsFor x (event.Data id (take used bytes) false ∷ events)) (sym n) (stands r events id (take used bytes) [] (message ∷ []) s k.headed g),
+      brings r events id (take used bytes) false _ s k.headed g,
+    )
 of_data r new events id bytes last (Err Head) s (t, n) = fails r events id bytes last Head s (failing r bytes last Head t)
 of_data r new events id bytes last (Err Compressed) s (t, n) = fails r events id bytes last Compressed s (failing r bytes last Compressed t)
 of_data r new events id bytes last (Err (TooLong size)) s (t, n) = fails r events id bytes last (TooLong size) s (failing r bytes last (TooLong size) t)
@@ -285,7 +288,7 @@ goes_on r new events e h s now same open_still is =
       headed = sym (ap (λ (y : Heard). y.headed) now);
       rest = s.rest ∙ ap (λ (b : List ℕ). (framed r.limit b).rest) (sym content);
       right = ap (λ (b : List ℕ). (framed r.limit b).fault) content ∙ s.right;
-      goes_on = ending ∙ s.goes_on
+      goes_on = ending ∙ s.goes_on;
     } in
     (subst (λ x. StandsFor x (e ∷ events)) (sym is) state, λ i. items_of (framed r.limit (content i)) (ending i))
 
@@ -352,7 +355,7 @@ faulty_stays limit events e (Some fault) is some =
     ap (λ (b : List ℕ). items_of (framed limit b) next.ending) g.is
     ∙ (λ i. map Message (kept.1 i) ++ last_items (kept.0 i) next.ending (framed limit ((heard events).content ++ g.more)).rest)
     ∙ ap (λ (ms : List Item). map Message (framed limit (heard events).content).messages ++ ms)
-      (told_once fault next.ending (framed limit ((heard events).content ++ g.more)).rest ∙ sym (told_once fault (heard events).ending (framed limit (heard events).content).rest))
+    (told_once fault next.ending (framed limit ((heard events).content ++ g.more)).rest ∙ sym (told_once fault (heard events).ending (framed limit (heard events).content).rest))
     ∙ ap (λ o. map Message (framed limit (heard events).content).messages ++ last_items o (heard events).ending (framed limit (heard events).content).rest) (sym is)
 
 pub over_stays : (limit : ℕ) (events : List Event) (e : Event) → IsOver limit events → items limit (e ∷ events) ≡ items limit events

@@ -9,16 +9,16 @@ abbrev pub prefix_fault : ℕ → ℕ → ℕ → Option CallFault
 prefix_fault limit flag size = if not (flag == 0) then Some Compressed else (if nat_lt limit size then Some (TooLong size) else None)
 
 -- What bytes begin with. A fault is told at the fifth byte, a message at its last.
-pub data First : Type 0 where
-  Unfinished : First
-  Refused : CallFault → First
-  Whole : List ℕ → First
+pub data Beginning : Type 0 where
+  Unfinished : Beginning
+  Refused : CallFault → Beginning
+  Whole : List ℕ → Beginning
 
-abbrev pub first_unless : Option CallFault → ℕ → List ℕ → First
+abbrev pub first_unless : Option CallFault → ℕ → List ℕ → Beginning
 first_unless (Some fault) size bytes = Refused fault
 first_unless None size bytes = if nat_lt (length bytes) (5 + size) then Unfinished else Whole (take size (drop 5 bytes))
 
-unfoldable pub first : ℕ → List ℕ → First
+unfoldable pub first : ℕ → List ℕ → Beginning
 first limit bytes =
     if nat_lt (length bytes) 5 then Unfinished
     else first_unless (prefix_fault limit (slice_index bytes 0) (u32_at bytes 1)) (u32_at bytes 1) bytes
@@ -33,7 +33,7 @@ abbrev pub before_rest : List ℕ → Framed → Framed
 before_rest message framed = record { messages = message ∷ framed.messages; rest = framed.rest; fault = framed.fault }
 
 -- by what the bytes begin with, and by what bytes behind a message have
-abbrev pub framed_by : First → List ℕ → (List ℕ → Framed) → Framed
+abbrev pub framed_by : Beginning → List ℕ → (List ℕ → Framed) → Framed
 framed_by Unfinished bytes behind = record { messages = []; rest = bytes; fault = None }
 framed_by (Refused fault) bytes behind = record { messages = []; rest = bytes; fault = Some fault }
 framed_by (Whole message) bytes behind = before_rest message (behind (drop (5 + length message) bytes))

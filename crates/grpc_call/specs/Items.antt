@@ -45,7 +45,7 @@ abbrev pub with_data : List ℕ → Bool → Heard → Heard
 with_data bytes last h =
     record h {
       content = if h.headed then h.content ++ bytes else h.content;
-      ending = if h.headed && not last then h.ending else Some Failed
+      ending = if h.headed && not last then h.ending else Some Failed;
     }
 
 abbrev pub with_event : Event → Heard → Heard

@@ -14,10 +14,10 @@ pub record IsKept (limit : ℕ) (prefix message : List ℕ) : Type 0 where
   pub waits : first limit (prefix ++ message) ≡ Unfinished
 
 -- what the prefix and the number of the bytes tell
-abbrev pub Starts : ℕ → List ℕ → Start → Type 0
-Starts limit bytes (start.Unfinished size) = first limit bytes ≡ Unfinished
-Starts limit bytes (start.Refused fault) = first limit bytes ≡ Refused fault
-Starts limit bytes (start.Whole size) = (first limit bytes ≡ Whole (take size (drop 5 bytes))) × (5 + size ≤ length bytes)
+abbrev pub StartsAs : ℕ → List ℕ → Start → Type 0
+StartsAs limit bytes (start.Unfinished size) = first limit bytes ≡ Unfinished
+StartsAs limit bytes (start.Refused fault) = first limit bytes ≡ Refused fault
+StartsAs limit bytes (start.Whole size) = (first limit bytes ≡ Whole (take size (drop 5 bytes))) × (5 + size ≤ length bytes)
 
 -- The bytes stand behind those that were kept. Out of memory changes nothing.
 abbrev pub IsAdded : {E : Type 0} → List ℕ → List ℕ → List ℕ → Result Unit E → List ℕ → List ℕ → Type 0

@@ -5,7 +5,7 @@ use Rattle.grpc_call.specs.declared.fault.CallFault.{CallFault}
 use Rattle.grpc_call.specs.declared.fault.CallFault.TheVariants.{Head, Cut, NoStatus, Memory}
 use Rattle.grpc_call.specs.declared.heads.Block.{Block}
 use Rattle.grpc_call.specs.declared.heads.Block.TheVariants.{Skips, Begins, Ends, Refuses}
-use Rattle.grpc_call.specs.Framed.{First, Unfinished, Refused, Whole, first}
+use Rattle.grpc_call.specs.Framed.{Beginning, Unfinished, Refused, Whole, first}
 use Rattle.grpc_call.specs.Blocks.{block_of, is_some_byte}
 
 -- what is kept of a response: the longest message that is taken, whether its head came, and the bytes of the unfinished message
@@ -43,7 +43,7 @@ pub data Taken : Type 0 where
 abbrev pub ended_behind : List ℕ → List ℕ → CallFault
 ended_behind rest bytes = if is_some_byte (rest ++ bytes) then Cut else NoStatus
 
-abbrev pub taken_by : First → Response → List ℕ → Bool → Taken
+abbrev pub taken_by : Beginning → Response → List ℕ → Bool → Taken
 taken_by Unfinished r bytes false = Keeps
 taken_by Unfinished r bytes true = Fails (ended_behind r.rest bytes)
 taken_by (Refused fault) r bytes ends = Fails fault
@@ -53,8 +53,8 @@ abbrev pub taken : Response → List ℕ → Bool → Taken
 taken r bytes ends = if r.headed then taken_by (first r.limit (r.rest ++ bytes)) r bytes ends else Fails Head
 
 -- a fault leaves a reader as it was
-abbrev pub Reads : Response → List ℕ → Bool → Result (Option (List ℕ × ℕ)) CallFault → Response → Type 0
-Reads r bytes ends (Ok None) new = (taken r bytes ends ≡ Keeps) × (new ≡ record r { rest = r.rest ++ bytes })
-Reads r bytes ends (Ok (Some (message, used))) new = (taken r bytes ends ≡ Gives message used) × (used ≤ length bytes) × (new ≡ record r { rest = [] })
-Reads r bytes ends (Err Memory) new = new ≡ r
-Reads r bytes ends (Err fault) new = (taken r bytes ends ≡ Fails fault) × (new ≡ r)
+abbrev pub ReadsData : Response → List ℕ → Bool → Result (Option (List ℕ × ℕ)) CallFault → Response → Type 0
+ReadsData r bytes ends (Ok None) new = (taken r bytes ends ≡ Keeps) × (new ≡ record r { rest = r.rest ++ bytes })
+ReadsData r bytes ends (Ok (Some (message, used))) new = (taken r bytes ends ≡ Gives message used) × (used ≤ length bytes) × (new ≡ record r { rest = [] })
+ReadsData r bytes ends (Err Memory) new = new ≡ r
+ReadsData r bytes ends (Err fault) new = (taken r bytes ends ≡ Fails fault) × (new ≡ r)

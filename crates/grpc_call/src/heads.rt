@@ -22,7 +22,8 @@ pub enum Block {
 fn is_right_type(field: &Field) -> bool
     ensures { result ≡ is_right_type field.now }
 {
-    field.name.bytes() != b"content-type".as_slice() || field.value.bytes().starts_with(b"application/grpc")
+    field.name.bytes() != b"content-type".as_slice()
+        || field.value.bytes().starts_with(b"application/grpc")
 }
 
 fn is_call_type(fields: &FieldList) -> bool
@@ -57,7 +58,11 @@ pub fn block_of(headed: bool, within: bool, fields: &FieldList, ends: bool) -> B
     ensures { result ≡ block_of headed within fields.now ends }
 {
     if is_interim(fields) {
-        return if ends { Block::Refuses(CallFault::Head) } else { Block::Skips };
+        return if ends {
+            Block::Refuses(CallFault::Head)
+        } else {
+            Block::Skips
+        };
     }
     if !is_right_status(headed, fields) {
         return Block::Refuses(CallFault::Head);

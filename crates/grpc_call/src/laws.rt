@@ -7,7 +7,7 @@ ghost use Rattle.h2_model.specs.declared.answers.Event.TheVariants as event;
 ghost use Rattle.grpc_call.specs.declared.fault.CallFault.{CallFault};
 ghost use Rattle.grpc_call.specs.Framed.{Whole, first};
 ghost use Rattle.grpc_call.specs.Items.{Closed, DataTold, HeadTold, IsOver, StandsFor, heard, items};
-ghost use Rattle.grpc_call.specs.Reading.{Reads, Response, begun, block_in, headed_by, told_by};
+ghost use Rattle.grpc_call.specs.Reading.{ReadsData, Response, begun, block_in, headed_by, told_by};
 ghost use Rattle.grpc_call.specs.Written.{framed_message};
 
 /// A new reader stands for a stream of which nothing came.
@@ -25,7 +25,7 @@ pub fn heads_are_told()
 /// by them.
 pub fn data_is_told()
     ensures { (r new : Response) (events : List Event) (id : ℕ) (bytes : List ℕ) (last : Bool) (result : Result (Option (List ℕ × ℕ)) CallFault)
-        → StandsFor r events → Reads r bytes last result new → DataTold r events id bytes last result new }
+        → StandsFor r events → ReadsData r bytes last result new → DataTold r events id bytes last result new }
 {}
 
 /// However DATA is cut, a stream brings the same.

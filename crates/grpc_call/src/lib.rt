@@ -21,7 +21,10 @@ mod status;
 mod writing;
 
 pub use fault::CallFault;
-pub use laws::{cut_data_is_joined, data_is_told, ends_are_told, heads_are_told, reader_begins, written_message_is_read};
+pub use laws::{
+    cut_data_is_joined, data_is_told, ends_are_told, heads_are_told, reader_begins,
+    written_message_is_read,
+};
 pub use reader::CallReader;
 pub use status::status_of;
 pub use writing::{call_head, frame_of};

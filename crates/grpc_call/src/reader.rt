@@ -2,8 +2,8 @@
 
 ghost use Rattle.std.specs.Prelude.{◌≡◌, ◌+◌, ◌≤◌, ◌<◌, ◌^◌, ◌++◌, length, vec_len, vec_capacity};
 ghost use Rattle.grpc_call.specs.Blocks.{is_some_byte};
-ghost use Rattle.grpc_call.specs.Reading.{begun, block_in, ended_behind, headed_by, told_by, Reads};
-ghost use Rattle.grpc_call.specs.Keeping.{Finishes, IsAdded, IsParted, Starts};
+ghost use Rattle.grpc_call.specs.Reading.{begun, block_in, ended_behind, headed_by, told_by, ReadsData};
+ghost use Rattle.grpc_call.specs.Keeping.{Finishes, IsAdded, IsParted, StartsAs};
 
 use crate::fault::CallFault;
 use crate::heads::{Block, block_of};
@@ -28,7 +28,7 @@ fn start_of(limit: u32, prefix: &[u8], message: &[u8], bytes: &[u8]) -> Start
     requires parted { IsParted prefix.now message.now }
     requires kept { length message.now < 2 ^ 32 }
     requires bytes { length bytes.now < 2 ^ 32 }
-    ensures { Starts limit (prefix.now ++ message.now ++ bytes.now) result }
+    ensures { StartsAs limit (prefix.now ++ message.now ++ bytes.now) result }
 {
     if prefix.len() + bytes.len() < PREFIX {
         return Start::Unfinished(0);
@@ -52,13 +52,22 @@ fn append(kept: &mut Vec<u8>, bytes: &[u8])
 }
 
 // Keeps bytes of a message of this length. Out of memory changes nothing.
-fn keep(prefix: &mut Vec<u8>, message: &mut Vec<u8>, bytes: &[u8], size: u32) -> Result<(), AllocError>
+fn keep(
+    prefix: &mut Vec<u8>,
+    message: &mut Vec<u8>,
+    bytes: &[u8],
+    size: u32,
+) -> Result<(), AllocError>
     requires parted { IsParted prefix.old.items message.old.items }
     ensures { IsAdded prefix.old.items message.old.items bytes.now result prefix.new.items message.new.items }
 {
     let (front, content) = bytes.split_at(bytes.len().min(PREFIX - prefix.len()));
     prefix.reserve(front.len())?;
-    message.reserve(content.len().max((size as usize).saturating_sub(message.len())))?;
+    message.reserve(
+        content
+            .len()
+            .max((size as usize).saturating_sub(message.len())),
+    )?;
     append(prefix, front);
     append(message, content);
     Ok(())
@@ -156,12 +165,17 @@ impl CallReader {
     /// messages are told it is a fault. A fault leaves the reader as it was.
     pub fn data(&mut self, bytes: &[u8], ends: bool) -> Result<Option<(Blob, u32)>, CallFault>
         requires { length bytes.now < 2 ^ 32 }
-        ensures { Reads self.old bytes.now ends result self.new }
+        ensures { ReadsData self.old bytes.now ends result self.new }
     {
         if !self.headed {
             return Err(CallFault::Head);
         }
-        match start_of(self.limit, self.prefix.as_slice(), self.message.as_slice(), bytes) {
+        match start_of(
+            self.limit,
+            self.prefix.as_slice(),
+            self.message.as_slice(),
+            bytes,
+        ) {
             Start::Refused(fault) => Err(fault),
             Start::Unfinished(_) if ends => Err(self.end_behind(bytes)),
             Start::Unfinished(size) => {

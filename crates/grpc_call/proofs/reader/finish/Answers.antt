@@ -14,10 +14,9 @@ returns-then-is_empty c =
 pub returns : goal.returns
 returns c =
     let all = content_is c.args.prefix.now.items c.args.message.now.items c.args.last.now c.requires.parted in
-    let at : c.len.result ≡ length c.args.prefix.now.items = omega (arith, c.len.ensures) in
-    (
+    let at : c.len.result ≡ length c.args.prefix.now.items = omega (arith, c.len.ensures) in (
       c.from_vec.ensures ∙ ap (λ v. v.items) c.replace.ensures.value ∙ c.in_ok-extend_from_slice.ensures.items
-      ∙ ap (λ (m : List ℕ). c.args.message.now.items ++ m) (c.split_at.ensures.back ∙ ap (λ n. drop (5 - n) c.args.last.now) at) ∙ sym all,
+          ∙ ap (λ (m : List ℕ). c.args.message.now.items ++ m) (c.split_at.ensures.back ∙ ap (λ n. drop (5 - n) c.args.last.now) at) ∙ sym all,
       c.clear-2.ensures.items,
       ap (λ v. v.items) c.replace.ensures.after ∙ c.new.ensures.items,
     )

@@ -20,6 +20,8 @@ pub returns : goal.returns
 returns c =
     let n = length-append (c.args.prefix.now ++ c.args.message.now) c.args.bytes.now in
     let m = length-append c.args.prefix.now c.args.message.now in
-    let there : 5 + c.size_of-size.result ≤ length (c.args.prefix.now ++ c.args.message.now ++ c.args.bytes.now) = omega (arith, c.if-prefix-message.false) in
-    (parted_long c.args.limit c.args.prefix.now c.args.message.now c.args.bytes.now None c.size_of-size.result c.requires.parted c.if-prefix-bytes-lt-PREFIX.false c.in_default.ensures c.size_of-size.ensures
-    ∙ unless_whole c.size_of-size.result (c.args.prefix.now ++ c.args.message.now ++ c.args.bytes.now) there, there)
+    let there : 5 + c.size_of-size.result ≤ length (c.args.prefix.now ++ c.args.message.now ++ c.args.bytes.now) = omega (arith, c.if-prefix-message.false) in (
+      parted_long c.args.limit c.args.prefix.now c.args.message.now c.args.bytes.now None c.size_of-size.result c.requires.parted c.if-prefix-bytes-lt-PREFIX.false c.in_default.ensures c.size_of-size.ensures
+          ∙ unless_whole c.size_of-size.result (c.args.prefix.now ++ c.args.message.now ++ c.args.bytes.now) there,
+      there,
+    )

@@ -13,5 +13,5 @@ pub returns-in-Err : goal.returns-in-Err
 returns-in-Err c =
     let same : c.in-Ok.digits.now ≡ c.args.value.now = c.in-Ok.ensures.cases.0 in
     let failed = unparsed c.in-Ok.digits.now c.in-Err.field-0 (subst (λ (b : List ℕ). list_all is_ascii_digit b ≡ true) (sym same) (sym c.if-not-is_decimal.ensures))
-        (rw c.in-Err.is at c.parse.ensures.value.0) in
+    (rw c.in-Err.is at c.parse.ensures.value.0) in
     sym (subst (λ (b : List ℕ). number_in b ≡ None) same failed)

@@ -1,5 +1,5 @@
 use Rattle.std.proofs.Common.{arith, rules, ◌≡◌, ◌∙◌, ◌-◌, ◌+◌, ◌≤◌, ◌<◌, ◌^◌, sym, ap, refl, subst, Bool, true, if◌then◌else◌, List, ℕ, [], ◌++◌, length, length-append, drop, take, vec_len}
-use Rattle.grpc_call.specs.Framed.{First, first, Whole}
+use Rattle.grpc_call.specs.Framed.{Beginning, first, Whole}
 use Rattle.grpc_call.specs.Reading.{Response, Gives, Fails, taken, taken_by}
 use Rattle.grpc_call.specs.declared.fault.CallFault.TheVariants.{Head}
 use Rattle.grpc_call.specs.Keeping.{IsKept}
@@ -33,17 +33,17 @@ gives limit used headed ends prefix message bytes last whole size e h f is =
     let same : whole ≡ drop 5 (prefix ++ message ++ take used bytes) = is ∙ ap (λ (b : List ℕ). drop 5 (prefix ++ message ++ b)) f in
     let r : Response = record { limit = limit; headed = headed; rest = prefix ++ message } in
     ap (λ (b : Bool). if b then taken_by (first limit (prefix ++ message ++ bytes)) r bytes ends else Fails Head) h
-    ∙ ap (λ (x : First). taken_by x r bytes ends) (e.whole ∙ ap Whole (sym same))
+    ∙ ap (λ (x : Beginning). taken_by x r bytes ends) (e.whole ∙ ap Whole (sym same))
     ∙ ap (λ n. Gives whole n) (ap (λ (b : List ℕ). 5 + length b - length (prefix ++ message)) same ∙ sym e.used_is)
 
 pub returns-in_ok-message-in-Whole : goal.returns-in_ok-message-in-Whole
 returns-in_ok-message-in-Whole c =
     let used : 5 + c.in-Whole.size - c.len.result - c.len-in-Whole.result ≡ 5 + c.in-Whole.size - length c.self.inside.prefix.items - length c.self.inside.message.items =
-        omega (arith, c.len.ensures, c.len-in-Whole.ensures) in
+    omega (arith, c.len.ensures, c.len-in-Whole.ensures) in
     let e = subst (λ n. Ended c.self.inside.limit c.in-Whole.size n c.self.inside.prefix.items c.self.inside.message.items c.args.bytes.now) (sym used)
-        (there c.self.inside.limit c.in-Whole.size c.self.inside.prefix.items c.self.inside.message.items c.args.bytes.now _ _ c.self.invariant c.as_slice.ensures.value c.as_slice-2.ensures.value c.in-Whole.ensures) in
+    (there c.self.inside.limit c.in-Whole.size c.self.inside.prefix.items c.self.inside.message.items c.args.bytes.now _ _ c.self.invariant c.as_slice.ensures.value c.as_slice-2.ensures.value c.in-Whole.ensures) in
     let got = gives c.self.inside.limit _ c.self.inside.headed c.args.ends c.self.inside.prefix.items c.self.inside.message.items c.args.bytes.now
-        c.split_at.result.0.now c.in_ok-message-in-Whole.message c.in-Whole.size e c.if-not-self.false c.split_at.ensures.front c.in_ok-message-in-Whole.ensures.0 in
+    c.split_at.result.0.now c.in_ok-message-in-Whole.message c.in-Whole.size e c.if-not-self.false c.split_at.ensures.front c.in_ok-message-in-Whole.ensures.0 in
     let empty : c.finish.new.prefix.items ++ c.finish.new.message.items ≡ [] = rw (c.in_ok-message-in-Whole.ensures.1, c.in_ok-message-in-Whole.ensures.2) refl in
     let limit = ap (λ (r : Response). r.limit) c.self.view_is in
     let headed = ap (λ (r : Response). r.headed) c.self.view_is in
