@@ -11,7 +11,7 @@ use std::alloc::{AllocError, Global};
 use std::marker::Model;
 
 /// What becomes of a lent piece.
-#[derive(Debug, Drop)]
+#[derive(Drop)]
 pub enum Change {
     /// It goes out as it is.
     Keep,
@@ -27,7 +27,7 @@ pub enum Change {
 /// Only the constructor takes memory. It reserves, for a buffer of `limit` bytes and answers of at most `answer`:
 /// `limit + 98,305` bytes at hand, `limit + 65,536` lent in at most four pieces, and
 /// `2 * limit + 4 * answer + 262,144` that go out.
-#[derive(Debug, Drop)]
+#[derive(Drop)]
 pub struct Hold {
     hand: ByteQueue,
     // The lent pieces, one behind the other, and their lengths.

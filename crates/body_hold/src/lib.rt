@@ -3,7 +3,5 @@
 
 mod hold;
 mod moves;
-#[cfg(test)]
-mod tests;
 
 pub use hold::{Change, Hold};

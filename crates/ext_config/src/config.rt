@@ -6,7 +6,7 @@ use pb_wire::Blob;
 use std::alloc::AllocError;
 
 /// What the filter is configured with. In a comment stands the key and what its absence means.
-#[derive(Debug, Drop)]
+#[derive(Drop)]
 pub struct Config {
     /// `failure_mode_allow`, false: an exchange goes on without the processor where that fails.
     pub failure_allow: bool,

@@ -28,7 +28,7 @@ fn absent_keys_have_their_defaults(rt: HostRuntime) -> Result<(), Fail> {
     assert!(rt; !config.no_immediate);
     for modes in [config.request, config.response] {
         assert!(rt; modes.headers);
-        assert_eq!(rt; modes.body, BodyMode::NoAsk);
+        assert!(rt; matches!(modes.body, BodyMode::NoAsk));
         assert!(rt; !modes.trailers);
     }
     assert!(rt; !config.rules.allow_all_routing);
@@ -124,7 +124,7 @@ fn reads_the_header_authentication_example(rt: HostRuntime) -> Result<(), Fail> 
     assert!(rt; !config.failure_allow);
     assert!(rt; config.request.headers);
     assert!(rt; !config.response.headers);
-    assert_eq!(rt; config.request.body, BodyMode::NoAsk);
+    assert!(rt; matches!(config.request.body, BodyMode::NoAsk));
     assert!(rt; config.rules.disallow_all);
     assert!(rt; config.rules.disallow_is_error);
     let prefixes = &config.rules.allow_prefixes;
@@ -162,7 +162,7 @@ fn reads_the_response_redaction_example(rt: HostRuntime) -> Result<(), Fail> {
     assert!(rt; config.no_immediate);
     assert!(rt; !config.request.headers);
     assert!(rt; config.response.headers);
-    assert_eq!(rt; config.response.body, BodyMode::Buffered);
+    assert!(rt; matches!(config.response.body, BodyMode::Buffered));
     assert!(rt; !config.response.trailers);
     assert!(rt; config.rules.disallow_all);
     assert_eq!(rt; config.buffer_limit, 262_144);

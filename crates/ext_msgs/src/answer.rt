@@ -4,7 +4,7 @@ use crate::{NameList, SetList};
 use pb_wire::Blob;
 
 /// What a processor answers.
-#[derive(Debug, Drop)]
+#[derive(Drop)]
 pub struct Answer {
     pub member: Member,
     /// `mode_override`.
@@ -14,7 +14,7 @@ pub struct Answer {
 }
 
 /// Which part an answer is about, and what it says.
-#[derive(Debug, Drop)]
+#[derive(Drop)]
 pub enum Member {
     Unset,
     RequestHeaders(Common),
@@ -27,7 +27,7 @@ pub enum Member {
 }
 
 /// `CommonResponse`, also an absent one: no replacement, no mutation.
-#[derive(Debug, Drop)]
+#[derive(Drop)]
 pub struct Common {
     /// The status is `CONTINUE_AND_REPLACE`.
     pub replace: bool,
@@ -36,7 +36,7 @@ pub struct Common {
 }
 
 /// `BodyMutation`, also an absent one.
-#[derive(Debug, Drop)]
+#[derive(Drop)]
 pub enum BodyChange {
     Absent,
     Bytes(Blob),
@@ -45,14 +45,14 @@ pub enum BodyChange {
 }
 
 /// `HeaderMutation`, also an absent one. Removals go before settings.
-#[derive(Debug, Drop)]
+#[derive(Drop)]
 pub struct HeaderMutation {
     pub set: SetList,
     pub remove: NameList,
 }
 
 /// `ImmediateResponse`: a reply in place of the exchange.
-#[derive(Debug, Drop)]
+#[derive(Drop)]
 pub struct Immediate {
     pub code: u32,
     pub headers: HeaderMutation,
@@ -60,20 +60,20 @@ pub struct Immediate {
 }
 
 /// The numbers of `ProcessingMode`, in the order of its fields.
-#[derive(Clone, Copy, Debug)]
+#[derive(Clone, Copy)]
 pub struct ModeNumbers {
     pub numbers: [i32; 6],
 }
 
 /// `google.protobuf.Duration`.
-#[derive(Clone, Copy, Debug)]
+#[derive(Clone, Copy)]
 pub struct Span {
     pub seconds: i64,
     pub nanos: i32,
 }
 
 /// An answer about one part: 0 headers, 1 body, 2 trailers. A mutation of trailers stands in `common.headers`.
-#[derive(Debug, Drop)]
+#[derive(Drop)]
 pub struct PartAnswer {
     pub part: u8,
     pub common: Common,

@@ -11,7 +11,7 @@ use pb_wire::{Payload, Record};
 use std::alloc::Global;
 
 /// The member of the oneof that was set last: its number, or 0, and what its occurrences so far say.
-#[derive(Debug, Drop)]
+#[derive(Drop)]
 pub struct MemberParts {
     pub number: u32,
     pub response: ResponseParts,
@@ -82,7 +82,7 @@ impl Message for MemberParts {
 }
 
 /// What the records of a `ProcessingResponse` so far say.
-#[derive(Debug, Drop)]
+#[derive(Drop)]
 pub struct AnswerParts {
     pub member: MemberParts,
     pub modes: Option<ModeParts>,

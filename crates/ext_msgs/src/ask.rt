@@ -4,7 +4,7 @@ use crate::FieldList;
 use pb_wire::Blob;
 
 /// What a processor is asked about. A truth value is `end_of_stream`: nothing of this message follows.
-#[derive(Debug, Drop)]
+#[derive(Drop)]
 pub enum Ask {
     RequestHeaders(FieldList, bool),
     ResponseHeaders(FieldList, bool),

@@ -34,7 +34,7 @@ impl HeaderParts {
 }
 
 /// What the records of a `HeaderMap` so far say.
-#[derive(Debug, Drop)]
+#[derive(Drop)]
 pub struct MapParts {
     pub fields: FieldList,
 }
@@ -68,7 +68,7 @@ impl Message for MapParts {
 }
 
 /// What the records of an `HttpHeaders` so far say.
-#[derive(Debug, Drop)]
+#[derive(Drop)]
 pub struct HeadParts {
     pub map: MapParts,
     pub last: bool,
@@ -111,7 +111,7 @@ impl Message for HeadParts {
 }
 
 /// What the records of an `HttpTrailers` so far say.
-#[derive(Debug, Drop)]
+#[derive(Drop)]
 pub struct TailParts {
     pub map: MapParts,
 }
@@ -144,7 +144,7 @@ impl Message for TailParts {
 }
 
 /// The member of the oneof that was set last: its number, or 0, and what its occurrences so far say.
-#[derive(Debug, Drop)]
+#[derive(Drop)]
 pub struct AskParts {
     pub number: u32,
     pub head: HeadParts,

@@ -9,7 +9,7 @@ use std::alloc::Global;
 use std::mem;
 
 /// What the records of an `HttpBody` or a `StreamedBodyResponse` so far say: their fields are the same.
-#[derive(Debug, Drop)]
+#[derive(Drop)]
 pub struct StreamParts {
     pub body: Blob,
     pub last: bool,

@@ -49,7 +49,7 @@ impl Message for Common {
 }
 
 /// What the records of a `HeadersResponse` or a `BodyResponse` so far say.
-#[derive(Debug, Drop)]
+#[derive(Drop)]
 pub struct ResponseParts {
     pub common: Common,
 }
@@ -82,7 +82,7 @@ impl Message for ResponseParts {
 }
 
 /// What the records of a `TrailersResponse` so far say.
-#[derive(Debug, Drop)]
+#[derive(Drop)]
 pub struct TrailerParts {
     pub mutation: HeaderMutation,
 }

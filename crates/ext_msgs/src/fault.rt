@@ -8,7 +8,7 @@ use std::alloc::{AllocError, AllocFailed};
 use thiserror::Error;
 
 /// Why bytes are no message. Places count from the first byte of all that is read.
-#[derive(Clone, Copy, Debug, PartialEq, Eq, Error)]
+#[derive(Clone, Copy, Debug, Error)]
 pub enum MsgFault {
     /// The bytes, or those of an embedded message, are no records.
     #[error("{0}")]

@@ -6,7 +6,7 @@ use pb_wire::{Payload, Record};
 use std::alloc::Global;
 
 /// What the records of a `BoolValue` so far say.
-#[derive(Clone, Copy, Debug, PartialEq, Eq)]
+#[derive(Clone, Copy)]
 pub struct FlagParts {
     pub value: bool,
 }

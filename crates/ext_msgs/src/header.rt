@@ -7,7 +7,7 @@ use pb_wire::{Blob, Payload, Record};
 use std::alloc::Global;
 
 /// What the records of a `HeaderValue` so far say.
-#[derive(Debug, Drop)]
+#[derive(Drop)]
 pub struct HeaderParts {
     pub key: Blob,
     pub value: Blob,

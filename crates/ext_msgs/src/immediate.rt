@@ -8,7 +8,7 @@ use pb_wire::{Blob, Payload, Record};
 use std::alloc::Global;
 
 /// What the records of an `HttpStatus` so far say.
-#[derive(Clone, Copy, Debug, PartialEq, Eq)]
+#[derive(Clone, Copy)]
 pub struct StatusParts {
     pub code: Option<u32>,
 }
@@ -43,7 +43,7 @@ impl Message for StatusParts {
 }
 
 /// What the records of an `ImmediateResponse` so far say.
-#[derive(Debug, Drop)]
+#[derive(Drop)]
 pub struct ImmediateParts {
     pub status: StatusParts,
     pub headers: HeaderMutation,

@@ -22,8 +22,6 @@ mod overrides;
 mod place;
 mod reading;
 mod records;
-#[cfg(test)]
-mod tests;
 mod writing;
 
 pub use answer::{

@@ -19,7 +19,7 @@ impl Duplicate for Field {
 }
 
 /// A field that a mutation sets, and how: `HeaderValueOption` of `envoy.config.core.v3`.
-#[derive(Debug, Drop)]
+#[derive(Drop)]
 pub struct SetField {
     pub name: Blob,
     pub value: Blob,

@@ -1,7 +1,7 @@
 //! Which parts of a message a processor is asked about.
 
 /// How the body of one direction is asked.
-#[derive(Clone, Copy, Debug, PartialEq, Eq)]
+#[derive(Clone, Copy)]
 pub enum BodyMode {
     /// It passes unasked: `NONE`.
     NoAsk,
@@ -14,7 +14,7 @@ pub enum BodyMode {
 }
 
 /// What is asked in one direction.
-#[derive(Clone, Copy, Debug, PartialEq, Eq)]
+#[derive(Clone, Copy)]
 pub struct PartModes {
     pub headers: bool,
     pub body: BodyMode,

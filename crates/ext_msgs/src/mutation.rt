@@ -11,7 +11,7 @@ use pb_wire::{Payload, Record};
 use std::alloc::Global;
 
 /// What the records of a `HeaderValueOption` so far say.
-#[derive(Debug, Drop)]
+#[derive(Drop)]
 pub struct SetParts {
     pub header: HeaderParts,
     pub append: Option<FlagParts>,

@@ -17,7 +17,7 @@ fn low_signed(number: u64) -> i32
 }
 
 /// What the records of a `ProcessingMode` so far say.
-#[derive(Clone, Copy, Debug, PartialEq, Eq)]
+#[derive(Clone, Copy)]
 pub struct ModeParts {
     pub request_header: i32,
     pub response_header: i32,

@@ -74,7 +74,7 @@ fn feed_front(reader: &mut HeadReader, bytes: &[u8]) -> Result<Option<Message>, 
 }
 
 /// A reader of a request's head. Contracts see the bytes so far.
-#[derive(Debug, Drop)]
+#[derive(Drop)]
 pub struct RequestReader {
     reader: HeadReader,
 }

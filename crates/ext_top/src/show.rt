@@ -15,7 +15,7 @@ use std::alloc::{AllocError, Global};
 use trace_format::read_hex;
 
 /// What the digits of a line are.
-#[derive(Clone, Copy, Debug)]
+#[derive(Clone, Copy)]
 pub enum Kind {
     Answer,
     Ask,

@@ -7,7 +7,7 @@ use header_mutation::Rules;
 use pb_wire::Blob;
 
 /// What a trace needs of its configuration.
-#[derive(Debug, Drop)]
+#[derive(Drop)]
 pub struct Setup {
     /// The processor is asked about the head of a request.
     pub asks: bool,
@@ -17,7 +17,7 @@ pub struct Setup {
 }
 
 /// Where the one exchange of a trace is.
-#[derive(Debug, Drop)]
+#[derive(Drop)]
 pub enum Exchange {
     /// It isn't opened.
     Unopened,
@@ -32,7 +32,7 @@ pub enum Exchange {
 }
 
 /// Which line of a trace comes next.
-#[derive(Debug, Drop)]
+#[derive(Drop)]
 pub enum Stage {
     /// The first line.
     First,
@@ -45,7 +45,7 @@ pub enum Stage {
 }
 
 /// What a line comes to.
-#[derive(Debug, Drop)]
+#[derive(Drop)]
 pub enum Met {
     /// It brings this text of the transcript, and leads on.
     Goes(Blob, Stage),

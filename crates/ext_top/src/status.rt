@@ -3,7 +3,7 @@
 use ext_config::ConfigFault;
 
 /// How a command ended.
-#[derive(Debug, Drop)]
+#[derive(Drop)]
 pub enum Status {
     /// The input was read to its end, and all was written.
     Done,

@@ -9,7 +9,7 @@ use px_edge::{Failed, Sink, Source};
 use std::alloc::Global;
 
 /// Why nothing more was read.
-#[derive(Debug, Drop)]
+#[derive(Drop)]
 pub(crate) enum Stop {
     Read,
     Memory,

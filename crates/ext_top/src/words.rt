@@ -12,7 +12,7 @@
 //! to 100,000. Numbers are decimal, without sign or leading zero.
 
 /// A port of this machine, given by its number or by its name.
-#[derive(Clone, Copy, Debug, PartialEq, Eq)]
+#[derive(Clone, Copy, Debug)]
 pub struct Address {
     /// `localhost`, and not `127.0.0.1`.
     pub named: bool,
@@ -20,7 +20,7 @@ pub struct Address {
 }
 
 /// What the program is to do.
-#[derive(Clone, Copy, Debug, PartialEq, Eq)]
+#[derive(Clone, Copy, Debug)]
 pub enum Command {
     Replay,
     ShowAnswer,

@@ -17,7 +17,7 @@ use std::alloc::AllocError;
 ///     v                                   Lf --+
 ///   Trailers ---> Over
 /// ```
-#[derive(Clone, Copy, Debug)]
+#[derive(Clone, Copy)]
 pub(crate) enum Stage {
     /// So many bytes are left.
     Known(u64),
@@ -48,7 +48,7 @@ pub(crate) struct Fed {
 }
 
 /// Why a step makes nothing of bytes.
-#[derive(Clone, Copy, Debug)]
+#[derive(Clone, Copy)]
 pub(crate) enum Stop {
     /// A chunk or the trailer section is outside the grammar.
     Bad,
@@ -69,7 +69,7 @@ impl From<AllocError> for Stop {
 }
 
 /// What stands behind the data of a chunk.
-#[derive(Clone, Copy, Debug)]
+#[derive(Clone, Copy)]
 pub(crate) enum ChunkEnd {
     Whole,
     Cr,

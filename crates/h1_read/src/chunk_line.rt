@@ -10,7 +10,7 @@ use httparse::{Status, parse_chunk_size};
 use std::alloc::AllocError;
 
 /// What the bytes so far give of a chunk's line.
-#[derive(Clone, Copy, Debug)]
+#[derive(Clone, Copy)]
 pub(crate) enum SizeLine {
     /// So many bytes are the line, and it says this size.
     Whole { used: usize, size: u64 },

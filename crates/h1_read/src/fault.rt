@@ -3,7 +3,7 @@
 use std::alloc::AllocError;
 
 /// Why a message can't be read.
-#[derive(Clone, Copy, Debug, PartialEq, Eq)]
+#[derive(Clone, Copy)]
 pub enum H1Fault {
     /// The head is outside the grammar, has no usable host or target, or is of a status that isn't taken.
     BadHead,

@@ -15,7 +15,7 @@ use pb_wire::Blob;
 use std::alloc::{AllocError, Global};
 
 /// The parts of a request head.
-#[derive(Debug, Drop)]
+#[derive(Drop)]
 pub struct RequestParts {
     pub method: Blob,
     pub target: Blob,
@@ -26,7 +26,7 @@ pub struct RequestParts {
 }
 
 /// The parts of a response head.
-#[derive(Debug, Drop)]
+#[derive(Drop)]
 pub struct ResponseParts {
     /// The three digits of its status.
     pub status: [u8; 3],
@@ -37,7 +37,7 @@ pub struct ResponseParts {
 }
 
 /// What the bytes so far give of a request head.
-#[derive(Debug, Drop)]
+#[derive(Drop)]
 pub enum RequestRead {
     /// It is whole, and takes so many bytes.
     Whole(RequestParts, usize),
@@ -47,7 +47,7 @@ pub enum RequestRead {
 }
 
 /// What the bytes so far give of a response head.
-#[derive(Debug, Drop)]
+#[derive(Drop)]
 pub enum ResponseRead {
     /// It is whole, and takes so many bytes.
     Whole(ResponseParts, usize),

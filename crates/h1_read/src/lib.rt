@@ -4,8 +4,6 @@
 mod body;
 mod body_stage;
 mod body_steps;
-#[cfg(test)]
-mod body_tests;
 mod chunk_line;
 mod fault;
 mod fields;
@@ -21,8 +19,6 @@ mod section;
 mod shown;
 mod step;
 mod target;
-#[cfg(test)]
-mod tests;
 mod text;
 mod trailers;
 mod values;

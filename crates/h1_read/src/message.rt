@@ -18,7 +18,7 @@ use pb_wire::{Blob, Duplicate};
 use std::alloc::{AllocError, Global};
 
 /// The head of a message, as a processor sees it.
-#[derive(Debug, Drop)]
+#[derive(Drop)]
 pub struct Message {
     /// The pseudo fields, and then the fields that are shown.
     pub head: FieldList,

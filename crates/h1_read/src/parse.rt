@@ -15,7 +15,7 @@ use httparse::spans::{
 use httparse::{Error, Status};
 
 /// Where the fields of a section stand.
-#[derive(Clone, Copy, Debug, Drop)]
+#[derive(Clone, Copy, Drop)]
 pub enum SectionParse {
     /// So many bytes, and so many fields.
     Whole { len: usize, count: usize },
@@ -24,7 +24,7 @@ pub enum SectionParse {
 }
 
 /// Where the parts of a request head stand.
-#[derive(Clone, Copy, Debug, Drop)]
+#[derive(Clone, Copy, Drop)]
 pub enum RequestParse {
     Whole(RequestSpans),
     Partial,
@@ -32,7 +32,7 @@ pub enum RequestParse {
 }
 
 /// Where the parts of a response head stand.
-#[derive(Clone, Copy, Debug, Drop)]
+#[derive(Clone, Copy, Drop)]
 pub enum ResponseParse {
     Whole(ResponseSpans),
     Partial,

@@ -3,7 +3,7 @@
 use ext_msgs::FieldList;
 
 /// What a call gives of a body.
-#[derive(Debug, Drop)]
+#[derive(Drop)]
 pub enum Piece {
     /// All bytes were used, and gave nothing.
     More,

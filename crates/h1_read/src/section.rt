@@ -11,7 +11,7 @@ use httparse::spans::EMPTY_HEADER_SPAN;
 use std::alloc::{AllocError, Global};
 
 /// What the bytes so far give of a trailer section.
-#[derive(Debug, Drop)]
+#[derive(Drop)]
 pub enum SectionRead {
     /// It is whole: its fields without owned names, and how many bytes it takes with the empty line at its end.
     Whole(FieldList, u32),

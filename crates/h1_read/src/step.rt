@@ -14,7 +14,7 @@ use http_model::Direction;
 use std::alloc::Global;
 
 /// The first response of some bytes.
-#[derive(Debug, Drop)]
+#[derive(Drop)]
 pub enum Turn {
     /// An interim response, which takes so many bytes.
     Interim(usize),
@@ -24,7 +24,7 @@ pub enum Turn {
 }
 
 /// The message whose head some bytes are.
-#[derive(Debug, Drop)]
+#[derive(Drop)]
 pub enum Step {
     /// Its head, and how many bytes were used.
     Got(Message, usize),

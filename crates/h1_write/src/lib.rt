@@ -5,8 +5,6 @@ mod chunk;
 mod fields;
 mod head;
 mod reason;
-#[cfg(test)]
-mod tests;
 
 pub use chunk::{chunk_bytes, last_bytes};
 pub use head::{request_bytes, response_bytes};

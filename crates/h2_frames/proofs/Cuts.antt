@@ -6,7 +6,7 @@ use Rattle.h2_frames.specs.declared.reader.Step.{Step}
 use Rattle.h2_frames.specs.declared.reader.Step.TheVariants.{More, Got}
 use Rattle.h2_frames.specs.Headers.{header_of, header_fault}
 use Rattle.h2_frames.specs.Frames.{Unfinished, Whole, Faulty, first, whole_or_faulty, Frames, StandsAtItsPlace}
-use Rattle.h2_frames.specs.Runs.{Call, Runs, used, used_by, given, given_by}
+use Rattle.h2_frames.specs.Runs.{FeedCall, FeedsAll, used, used_by, given, given_by}
 use Rattle.h2_frames.proofs.First.{order, Reach, within_header, refused, within_payload, to_the_end, reach, header_front, first_short, first_refused, first_waits, first_whole, refused_by, waits_for, whole_by, told_something, first_stays, cut_at}
 
 -- a frame's length, as its header says
@@ -36,19 +36,19 @@ first_own xs ys f n e l =
     let enough : 9 + (header_of (xs ++ ys)).size ≤ length xs = let q : n ≡ 9 + (header_of (xs ++ ys)).size = w.len in omega arith in
     sym (first_stays xs ys (λ u. told_something _ _ (sym (whole_by xs (header_of (xs ++ ys)) (header_front xs ys long) long w.right enough) ∙ u))) ∙ e
 
-nothing : first [] ≡ Unfinished
+pub nothing : first [] ≡ Unfinished
 nothing = first_short [] (omega arith)
 
-from_here : (old : List ℕ) (calls : List Call) (rest : List ℕ) → first old ≡ Unfinished → Runs old calls rest → Frames (old ++ used calls) (given calls) rest
+from_here : (old : List ℕ) (calls : List FeedCall) (rest : List ℕ) → first old ≡ Unfinished → FeedsAll old calls rest → Frames (old ++ used calls) (given calls) rest
 from_here old [] rest u r = subst (λ (b : List ℕ). (first b ≡ Unfinished) × (rest ≡ b)) (sym (append-nil old)) (u, r)
 from_here old (c ∷ calls) rest u r = by c.answer r (λ next v q. from_here next calls rest v q)
   where
-    by : (step : Step) → Runs old (record { bytes = c.bytes; answer = step } ∷ calls) rest
-        → ((next : List ℕ) → first next ≡ Unfinished → Runs next calls rest → Frames (next ++ used calls) (given calls) rest)
+    by : (step : Step) → FeedsAll old (record { bytes = c.bytes; answer = step } ∷ calls) rest
+        → ((next : List ℕ) → first next ≡ Unfinished → FeedsAll next calls rest → Frames (next ++ used calls) (given calls) rest)
         → Frames (old ++ (used_by c.bytes step ++ used calls)) (given_by step (given calls)) rest
     by More (next, fed, runs) ih =
         subst (λ (b : List ℕ). Frames b (given calls) rest) (append_assoc old c.bytes (used calls))
-        (ih (old ++ c.bytes) fed.0 (subst (λ (k : List ℕ). Runs k calls rest) fed.1 runs))
+        (ih (old ++ c.bytes) fed.0 (subst (λ (k : List ℕ). FeedsAll k calls rest) fed.1 runs))
     by (Got f n) (next, fed, runs) ih =
         let xs : List ℕ = old ++ take n c.bytes in
         let xs_len : length xs ≡ length old + n = length-append old (take n c.bytes) ∙ ap (λ (k : ℕ). length old + k) (length-take-le n c.bytes fed.2) in
@@ -57,11 +57,11 @@ from_here old (c ∷ calls) rest u r = by c.answer r (λ next v q. from_here nex
         let here : first (xs ++ used calls) ≡ Whole f (length old + n) = first_stays xs (used calls) (λ e. told_something (Some f) (length old + n) (sym own ∙ e)) ∙ own in
         let behind : drop (length old + n) (xs ++ used calls) ≡ used calls =
         drop-append-le (length old + n) xs (used calls) (omega arith) ∙ ap (λ (b : List ℕ). b ++ used calls) (drop_all (length old + n) xs (omega arith)) in
-        let left : Frames (used calls) (given calls) rest = ih [] nothing (subst (λ (k : List ℕ). Runs k calls rest) fed.3 runs) in
+        let left : Frames (used calls) (given calls) rest = ih [] nothing (subst (λ (k : List ℕ). FeedsAll k calls rest) fed.3 runs) in
         subst (λ (b : List ℕ). Frames b (f ∷ given calls) rest) (append_assoc old (take n c.bytes) (used calls))
         (length old + n, here, subst (λ (b : List ℕ). Frames b (given calls) rest) (sym behind) left)
 
-pub in_any_cut : (calls : List Call) (rest : List ℕ) → Runs [] calls rest → Frames (used calls) (given calls) rest
+pub in_any_cut : (calls : List FeedCall) (rest : List ℕ) → FeedsAll [] calls rest → Frames (used calls) (given calls) rest
 in_any_cut calls rest r = from_here [] calls rest nothing r
 
 pub one_list : (bytes : List ℕ) (fs gs : List Frame) (rest other : List ℕ) → Frames bytes fs rest → Frames bytes gs other → (fs ≡ gs) × (rest ≡ other)

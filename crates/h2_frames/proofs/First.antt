@@ -8,7 +8,7 @@ use Rattle.h2_frames.specs.declared.header.Header.{Header}
 use Rattle.h2_frames.specs.declared.frame.Frame.{Frame}
 use Rattle.h2_frames.specs.declared.fault.FrameFault.{FrameFault}
 use Rattle.h2_frames.specs.declared.fault.FrameFault.TheVariants.{Code, Memory}
-use Rattle.h2_frames.specs.Reading.{Gives, Tells, Feeds}
+use Rattle.h2_frames.specs.Reading.{GivesFrame, Tells, Feeds}
 use Rattle.h2_frames.specs.Headers.{header_of, header_fault, has_wrong_size, is_misplaced}
 use Rattle.h2_frames.specs.Payloads.{frame_of}
 use Rattle.h2_frames.specs.Frames.{Unfinished, Whole, Faulty, first, first_behind, first_unless, whole_or_faulty}
@@ -105,7 +105,7 @@ told_whole xs h is e len =
 
 -- what the payload gives is what the bytes begin with
 pub told : (xs : List ℕ) (h : Header) (result : Result Frame FrameFault) → h ≡ header_of xs → header_fault h ≡ None → length xs ≡ 9 + h.size
-    → Gives (λ (f : Frame). f) result (frame_of h.kind h (drop 9 xs)) → Tells xs result
+    → GivesFrame (λ (f : Frame). f) result (frame_of h.kind h (drop 9 xs)) → Tells xs result
 told xs h (Ok f) is e len g = told_whole xs h is e len ∙ ap (λ (o : Option Frame). whole_or_faulty o (length xs)) g
 told xs h (Err (Code code)) is e len g = told_whole xs h is e len ∙ ap (λ (o : Option Frame). whole_or_faulty o (length xs)) g.0 ∙ ap Faulty (sym g.1)
 told xs h (Err Memory) is e len g = tt

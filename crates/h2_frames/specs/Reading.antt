@@ -11,10 +11,10 @@ use Rattle.h2_frames.specs.declared.fault.FrameFault.{FrameFault}
 use Rattle.h2_frames.specs.declared.fault.FrameFault.TheVariants.{Code, Memory}
 
 -- What a function read of a payload, seen by view. Nothing is read where the padding is too long.
-abbrev pub Gives : {X Y : Type 0} → (X → Y) → Result X FrameFault → Option Y → Type 0
-Gives view (Ok x) read = read ≡ Some (view x)
-Gives view (Err (Code code)) read = (read ≡ None) × (code ≡ 1)
-Gives view (Err Memory) read = Unit {0}
+abbrev pub GivesFrame : {X Y : Type 0} → (X → Y) → Result X FrameFault → Option Y → Type 0
+GivesFrame view (Ok x) read = read ≡ Some (view x)
+GivesFrame view (Err (Code code)) read = (read ≡ None) × (code ≡ 1)
+GivesFrame view (Err Memory) read = Unit {0}
 
 -- what reading bytes tells that are as long as their header says
 abbrev pub Tells : List ℕ → Result Frame FrameFault → Type 0

@@ -6,21 +6,21 @@ use Rattle.h2_frames.specs.declared.reader.Step.{Step}
 use Rattle.h2_frames.specs.declared.reader.Step.TheVariants.{More, Got}
 
 -- the bytes that were fed, and the answer
-pub record Call : Type 0 where
+pub record FeedCall : Type 0 where
   pub bytes : List ℕ
   pub answer : Step
 
 -- the calls that were answered by these steps, from the bytes that the reader kept to those that it keeps
-abbrev pub Runs : List ℕ → List Call → List ℕ → Type 0
-Runs old [] new = new ≡ old
-Runs old (c ∷ calls) new = (next : List ℕ) × Feeds old c.bytes (Ok c.answer) next × Runs next calls new
+abbrev pub FeedsAll : List ℕ → List FeedCall → List ℕ → Type 0
+FeedsAll old [] new = new ≡ old
+FeedsAll old (c ∷ calls) new = (next : List ℕ) × Feeds old c.bytes (Ok c.answer) next × FeedsAll next calls new
 
 abbrev pub used_by : List ℕ → Step → List ℕ
 used_by bytes More = bytes
 used_by bytes (Got f n) = take n bytes
 
 -- all bytes that the calls used, in their order
-abbrev pub used : List Call → List ℕ
+abbrev pub used : List FeedCall → List ℕ
 used [] = []
 used (c ∷ calls) = used_by c.bytes c.answer ++ used calls
 
@@ -29,6 +29,6 @@ given_by More frames = frames
 given_by (Got f n) frames = f ∷ frames
 
 -- the frames that they gave
-abbrev pub given : List Call → List Frame
+abbrev pub given : List FeedCall → List Frame
 given [] = []
 given (c ∷ calls) = given_by c.answer (given calls)

@@ -2,7 +2,7 @@
 
 ghost use Rattle.std.specs.Prelude.{◌≡◌, ◌≤◌, length, IfOk};
 ghost use Rattle.h2_frames.specs.Payloads.{frame_of};
-ghost use Rattle.h2_frames.specs.Reading.{Gives};
+ghost use Rattle.h2_frames.specs.Reading.{GivesFrame};
 ghost use Rattle.h2_frames.specs.Spelling.{bit, framed as frame_bytes};
 ghost use Rattle.h2_frames.specs.declared.header.Kind.TheVariants as kind;
 
@@ -14,7 +14,7 @@ use std::alloc::{AllocError, Global};
 
 #[tactic(auto, unfolding(crate::specs::Payloads::frame_of))]
 pub(crate) fn read(alloc: Global, header: Header, payload: &[u8]) -> Result<Frame, FrameFault>
-    ensures { Gives (λ f. f) result (frame_of kind.Continuation header payload.now) }
+    ensures { GivesFrame (λ f. f) result (frame_of kind.Continuation header payload.now) }
 {
     let block = Blob::of(alloc, payload)?;
     Ok(Frame::Continuation(header.stream, block, header.ends_block()))

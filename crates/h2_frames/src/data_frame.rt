@@ -3,7 +3,7 @@
 ghost use Rattle.std.specs.Prelude.{◌≡◌, ◌≤◌, false, length, IfOk};
 ghost use Rattle.h2_frames.specs.Headers.{has_wrong_size as wrong_size};
 ghost use Rattle.h2_frames.specs.Payloads.{frame_of};
-ghost use Rattle.h2_frames.specs.Reading.{Gives};
+ghost use Rattle.h2_frames.specs.Reading.{GivesFrame};
 ghost use Rattle.h2_frames.specs.Spelling.{bit, framed as frame_bytes};
 ghost use Rattle.h2_frames.specs.declared.header.Kind.TheVariants as kind;
 
@@ -24,7 +24,7 @@ pub(crate) fn has_wrong_size(header: Header) -> bool
 pub(crate) fn read(alloc: Global, header: Header, payload: &[u8]) -> Result<Frame, FrameFault>
     requires whole { length payload.now ≡ header.size }
     requires sized { wrong_size kind.Data header ≡ false }
-    ensures { Gives (λ f. f) result (frame_of kind.Data header payload.now) }
+    ensures { GivesFrame (λ f. f) result (frame_of kind.Data header payload.now) }
 {
     let content = content(header, header.pad_byte(), payload)?;
     let content = Blob::of(alloc, content)?;

@@ -6,7 +6,7 @@ ghost use Rattle.h2_frames.specs.declared.header.Header.{Header};
 ghost use Rattle.h2_frames.specs.Payloads.{padding, content_of};
 ghost use Rattle.h2_frames.specs.Frames.{First, first, Unfinished, Whole, Faulty, Frames, StandsAtItsPlace};
 ghost use Rattle.h2_frames.specs.Spelling.{spelling, IsWritable, IsInRange};
-ghost use Rattle.h2_frames.specs.Runs.{Call, Runs, used, given};
+ghost use Rattle.h2_frames.specs.Runs.{FeedCall, FeedsAll, used, given};
 
 /// What is written for a frame is read back, whatever comes behind it.
 pub fn written_is_read()
@@ -20,7 +20,7 @@ pub fn padding_is_left_out()
 
 /// However bytes are cut into calls, a new reader gives their frames in order, and keeps what is left of them.
 pub fn frames_in_any_cut()
-    ensures { (calls : List Call) (kept : List ℕ) → Runs [] calls kept → Frames (used calls) (given calls) kept }
+    ensures { (calls : List FeedCall) (kept : List ℕ) → FeedsAll [] calls kept → Frames (used calls) (given calls) kept }
 {}
 
 /// Bytes have one list of whole frames.

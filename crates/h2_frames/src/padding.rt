@@ -3,7 +3,7 @@
 ghost use Rattle.std.specs.Prelude.{◌≡◌, ◌≤◌, length, slice_index};
 ghost use Rattle.h2_frames.specs.Headers.{pad_byte};
 ghost use Rattle.h2_frames.specs.Payloads.{padding, content_of};
-ghost use Rattle.h2_frames.specs.Reading.{Gives};
+ghost use Rattle.h2_frames.specs.Reading.{GivesFrame};
 
 use crate::codes::PROTOCOL_ERROR;
 use crate::fault::FrameFault;
@@ -24,7 +24,7 @@ fn padding(header: Header, payload: &[u8]) -> usize
 pub(crate) fn content(header: Header, before: u32, payload: &[u8]) -> Result<&[u8], FrameFault>
     requires pad_byte { pad_byte header ≤ before }
     requires first { before ≤ length payload.now }
-    ensures { Gives (λ s. s.now) result (content_of header before payload.now) }
+    ensures { GivesFrame (λ s. s.now) result (content_of header before payload.now) }
 {
     let padding = padding(header, payload);
     let (_, rest) = payload.split_at(before as usize);

@@ -4,7 +4,7 @@ ghost use Rattle.std.specs.Prelude.{◌≡◌, ◌+◌, ◌≤◌, ◌<◌, ◌^
 ghost use Rattle.h2_frames.specs.Headers.{header_of, header_fault, has_wrong_size};
 ghost use Rattle.h2_frames.specs.Payloads.{frame_of};
 ghost use Rattle.h2_frames.specs.Frames.{first, Unfinished};
-ghost use Rattle.h2_frames.specs.Reading.{Gives, Tells, Starts, Feeds};
+ghost use Rattle.h2_frames.specs.Reading.{GivesFrame, Tells, Starts, Feeds};
 
 use crate::fault::FrameFault;
 use crate::frame::Frame;
@@ -30,7 +30,7 @@ pub enum Step {
 fn frame(alloc: Global, header: Header, payload: &[u8]) -> Result<Frame, FrameFault>
     requires whole { length payload.now ≡ header.size }
     requires sized { has_wrong_size header.kind header ≡ false }
-    ensures { Gives (λ f. f) result (frame_of header.kind header payload.now) }
+    ensures { GivesFrame (λ f. f) result (frame_of header.kind header payload.now) }
 {
     match header.kind {
         Kind::Data => data_frame::read(alloc, header, payload),

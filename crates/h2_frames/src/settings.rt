@@ -3,7 +3,7 @@
 ghost use Rattle.std.specs.Prelude.{◌≡◌, ◌≤◌, ◌*◌, ◌/◌, ◌++◌, ◌∷◌, [], false, length, flat_map, IfOk, OnOk};
 ghost use Rattle.h2_frames.specs.Headers.{has_wrong_size as wrong_size};
 ghost use Rattle.h2_frames.specs.Payloads.{frame_of, setting_of, settings_of};
-ghost use Rattle.h2_frames.specs.Reading.{Gives};
+ghost use Rattle.h2_frames.specs.Reading.{GivesFrame};
 ghost use Rattle.h2_frames.specs.Spelling.{setting_bytes, framed as frame_bytes};
 ghost use Rattle.h2_frames.specs.declared.header.Kind.TheVariants as kind;
 
@@ -42,7 +42,7 @@ fn settings(alloc: Global, payload: &[u8]) -> Result<SettingList, AllocError>
 #[tactic(auto, unfolding(crate::specs::Payloads::frame_of))]
 pub(crate) fn read(alloc: Global, header: Header, payload: &[u8]) -> Result<Frame, FrameFault>
     requires { length payload.now ≡ header.size }
-    ensures { Gives (λ f. f) result (frame_of kind.Settings header payload.now) }
+    ensures { GivesFrame (λ f. f) result (frame_of kind.Settings header payload.now) }
 {
     if header.is_ack() {
         return Ok(Frame::SettingsAck);

@@ -6,7 +6,7 @@ use Rattle.h2_frames.specs.declared.frame.Frame.{Frame}
 use Rattle.h2_frames.specs.declared.frame.Frame.TheVariants as frame
 use Rattle.h2_model.specs.declared.answers.Event.{Event}
 use Rattle.h2_model.specs.Codes.{protocol_error, refused_stream}
-use Rattle.h2_model.specs.Log.{Entry, Log, Opened, Received, Block, Handed, Owed, Given, Reported, stream_of, is_empty}
+use Rattle.h2_model.specs.Log.{LogEntry, Log, Opened, Received, Block, Handed, Owed, Given, Reported, stream_of, is_empty}
 use Rattle.h2_model.specs.Streams.{is_opened, live_streams}
 use Rattle.h2_model.specs.Blocks.{OpenBlock, whole_block}
 use Rattle.h2_model.specs.Queue.{whole_within}
@@ -26,7 +26,7 @@ same-log a b e = record { more = []; log = e }
 chain : (a b c : Account) → Grows a b → Grows b c → Grows a c
 chain a b c x y = record { more = y.more ++ x.more; log = y.log ∙ ap (λ l. y.more ++ l) x.log ∙ sym (append_assoc y.more x.more a.log) }
 
-noted-grows : (e : Entry) (a : Account) → Grows a (noted e a)
+noted-grows : (e : LogEntry) (a : Account) → Grows a (noted e a)
 unfolding noted
 noted-grows e a = record { more = e ∷ []; log = refl }
 
@@ -117,7 +117,7 @@ bytes-grow : (bytes : List ℕ) (a : Account) → Grows a (with_bytes bytes a)
 bytes-grow [] a = same-log a a refl
 bytes-grow (b ∷ bytes) a = chain a (with_byte b a) (with_bytes bytes (with_byte b a)) (byte-grows b a) (bytes-grow bytes (with_byte b a))
 
-released-grows : (held : List Entry) (a : Account) → Grows a (released held a)
+released-grows : (held : List LogEntry) (a : Account) → Grows a (released held a)
 unfolding noted
 released-grows [] a = same-log a a refl
 released-grows (Owed f ∷ held) a =

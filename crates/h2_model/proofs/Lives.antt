@@ -1,16 +1,12 @@
 -- The live streams as a list: how one that changes moves it, and how a stream is looked up.
-use Rattle.std.proofs.Common.{◌≡◌, ℕ, Bool, true, false, List, [], ◌∷◌, ◌++◌, Option, Some, None, refl, sym, ◌∙◌, ap, if◌then◌else◌, ◌==◌, ◌&&◌, ◌||◌, not, filter, length, map, reverse, subst, arith}
-use Rattle.std.specs.List.{list_any, filter_map, cons_option, find}
+use Rattle.std.proofs.Common.{◌≡◌, ℕ, Bool, true, false, List, [], ◌∷◌, ◌++◌, Option, Some, None, refl, sym, ◌∙◌, ap, if◌then◌else◌, ◌==◌, ◌&&◌, ◌||◌, not, reverse, subst}
+use Rattle.std.specs.List.{list_any, filter_map, cons_option}
 use Rattle.std.proofs.lemmas.Bool.{eqb-true}
 use Rattle.std.proofs.lemmas.List.Sorted.{list_any-IsPermutation, IsPermutation-reverse}
-use Rattle.std.proofs.lemmas.Grind.{common_steps}
-use Rattle.std.proofs.lemmas.List.Elements.{filter_map-append}
 use Rattle.h2_model.specs.declared.stream.Stream.{Stream}
-use Rattle.h2_model.specs.Log.{Log}
-use Rattle.h2_model.specs.Streams.{opened, is_opened, is_live, live_streams, is_reset, is_ended_by_peer, is_ended_here}
+use Rattle.h2_model.specs.Streams.{opened, is_opened, is_live, is_reset, is_ended_by_peer, is_ended_here}
 use Rattle.h2_model.specs.Account.{Account}
-use Rattle.h2_model.specs.State.{live, live_among, streams, stream_of_log}
-use Rattle.h2_model.specs.Moves.{adjust, adjusted}
+use Rattle.h2_model.specs.State.{found, live, live_among, streams, stream_of_log}
 
 abbrev pub bound : {A B : Type 0} → Option A → (A → Option B) → Option B
 bound None f = None
@@ -33,11 +29,6 @@ pub streams-moved : (a b : Account) (g : Stream → Option Stream) → opened b.
 unfolding streams
 streams-moved a b g o e = ap (λ ids. live_among (reverse ids) b) o ∙ among-adjusted a b g (reverse (opened a.log)) e
 
--- a move that opens none and changes none
-bound-same : {A : Type 0} (o : Option A) → bound o (λ x. Some x) ≡ o
-bound-same None = refl
-bound-same (Some x) = refl
-
 pub among-same : (a b : Account) (ids : List ℕ) → ((id : ℕ) → live id b ≡ live id a) → live_among ids b ≡ live_among ids a
 among-same a b [] e = refl
 among-same a b (id ∷ ids) e = ap (λ o. cons_option o (live_among ids b)) (e id) ∙ ap (cons_option (live id a)) (among-same a b ids e)
@@ -47,9 +38,6 @@ unfolding streams
 streams-same a b o e = ap (λ ids. live_among (reverse ids) b) o ∙ among-same a b (reverse (opened a.log)) e
 
 -- A stream is looked up by its number
-
-abbrev pub found : ℕ → List Stream → Option Stream
-found id streams = find (λ s. s.id == id) streams
 
 is-live : (id : ℕ) (a : Account) → is_live id a.log ≡ true → live id a ≡ Some (stream_of_log id a)
 unfolding live
@@ -86,7 +74,7 @@ looked id (n ∷ ids) a = by (looked id ids a) (n == id) refl (is_live n a.log) 
     by ih false s true l = rw (is-live n a l) (found-first id n a (live_among ids a) ∙ rw s ih)
     by ih false s false l = rw (isnt-live n a l) (rw s ih)
 
-not-opened : (id : ℕ) (a : Account) → is_opened id a.log ≡ false → live id a ≡ None
+pub not-opened : (id : ℕ) (a : Account) → is_opened id a.log ≡ false → live id a ≡ None
 not-opened id a e = isnt-live id a (by (is_opened id a.log) e)
   where
     by : (o : Bool) → o ≡ false → (o && not (is_reset id a.log) && not (is_ended_by_peer id a.log && is_ended_here id a.log)) ≡ false

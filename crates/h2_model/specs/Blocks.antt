@@ -2,11 +2,11 @@
 use Rattle.std.specs.Prelude.{ℕ, Bool, false, List, [], ◌∷◌, ◌++◌, Option, Some, None, Result, Ok, Err, if◌then◌else◌, filter_map}
 use Rattle.ext_msgs.specs.declared.lists.Field.{Field}
 use Rattle.hpack_core.specs.declared.fault.HpackFault.{HpackFault}
-use Rattle.hpack_core.specs.Tables.{State}
+use Rattle.hpack_core.specs.Tables.{TableState}
 use Rattle.hpack_core.specs.Reading.{block_of}
 use Rattle.h2_frames.specs.declared.frame.Frame.{Frame}
 use Rattle.h2_frames.specs.declared.frame.Frame.TheVariants as frame
-use Rattle.h2_model.specs.Log.{Entry, Log, Received, Block}
+use Rattle.h2_model.specs.Log.{LogEntry, Log, Received, Block}
 
 pub record OpenBlock : Type 0 where
   pub stream : ℕ
@@ -40,7 +40,7 @@ ends_block _ = false
 abbrev pub whole_block : Log → Frame → Option OpenBlock
 whole_block log f = if ends_block f then block_with log f else None
 
-abbrev pub block_bytes : Entry → Option (List ℕ)
+abbrev pub block_bytes : LogEntry → Option (List ℕ)
 block_bytes (Block id bytes last) = Some bytes
 block_bytes _ = None
 
@@ -51,13 +51,13 @@ blocks log = filter_map block_bytes log
 -- The blocks of a connection share one table
 
 abbrev pub Decoded : Type 0
-Decoded = Result (List Field × State) HpackFault
+Decoded = Result (List Field × TableState) HpackFault
 
-abbrev pub table_or : State → Decoded → State
+abbrev pub table_or : TableState → Decoded → TableState
 table_or before (Ok read) = read.1
 table_or before (Err fault) = before
 
-unfoldable pub table_after : List (List ℕ) → State
+unfoldable pub table_after : List (List ℕ) → TableState
 table_after [] = record { entries = []; limit = 4096 }
 table_after (block ∷ earlier) = table_or (table_after earlier) (block_of (table_after earlier) block)
 

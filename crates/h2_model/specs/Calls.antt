@@ -9,7 +9,7 @@ use Rattle.h2_model.specs.declared.answers.Event.TheVariants as event
 use Rattle.h2_model.specs.declared.answers.Fed.{Fed}
 use Rattle.h2_model.specs.declared.answers.SessionFault.{SessionFault}
 use Rattle.h2_model.specs.declared.answers.SessionFault.TheVariants.{Code, Memory}
-use Rattle.h2_model.specs.Log.{Entry, Received, is_empty, stream_of, violation}
+use Rattle.h2_model.specs.Log.{LogEntry, Received, is_empty, stream_of, violation}
 use Rattle.h2_model.specs.Streams.{opened, is_live, live_streams, is_ended_here}
 use Rattle.h2_model.specs.Settings.{stream_limit, table_limit, known_limit}
 use Rattle.h2_model.specs.Queue.{flow, is_data, unsent, control_bytes, bytes_of}
@@ -48,14 +48,9 @@ abbrev pub IsFault : Account → List ℕ → SessionFault → Type 0
 IsFault a bytes (Code code) = violation (with_bytes (used_bytes bytes a) a).log ≡ Some code
 IsFault a bytes Memory = Unit {0}
 
--- the call is in the history but where memory ran out
-abbrev pub after_fault : List ℕ → Account → List Call → SessionFault → List Call
-after_fault bytes a h (Code code) = Feed (used_bytes bytes a) ∷ h
-after_fault bytes a h Memory = h
-
 -- open
 
-abbrev pub is_goaway : Entry → Bool
+abbrev pub is_goaway : LogEntry → Bool
 is_goaway (Received (frame.GoAway last code)) = true
 is_goaway _ = false
 
@@ -105,7 +100,7 @@ sendable id n a = min (min n 16384) (min (positive_part (connection_window a)) (
 -- take
 
 -- the bytes given are the next of those that wait, and none only where there is no room or nothing waits
-pub record Gives (a : Account) (old new : List ℕ) (n : ℕ) : Type 0 where
+pub record GivesBytes (a : Account) (old new : List ℕ) (n : ℕ) : Type 0 where
   pub fits : n ≤ length old
   pub there : n ≤ length (flow a.waiting)
   pub bytes : new ≡ take n (flow a.waiting) ++ drop n old

@@ -7,7 +7,7 @@ use Rattle.h2_frames.specs.declared.frame.Frame.{Frame}
 use Rattle.h2_frames.specs.declared.frame.Frame.TheVariants as frame
 use Rattle.h2_model.specs.declared.answers.Event.{Event}
 use Rattle.h2_model.specs.Codes.{protocol_error, refused_stream}
-use Rattle.h2_model.specs.Log.{Entry, Log, Opened, Received, Block, Violated, Handed, Owed, Given, Reported, stream_of, violation, is_empty}
+use Rattle.h2_model.specs.Log.{LogEntry, Log, Opened, Received, Block, Violated, Handed, Owed, Given, Reported, stream_of, violation, is_empty}
 use Rattle.h2_model.specs.Streams.{opened, is_opened, greatest, is_reset, live_streams}
 use Rattle.h2_model.specs.Blocks.{OpenBlock, whole_block}
 use Rattle.h2_model.specs.Queue.{fresh, is_free, has_bytes, entered, behind, whole_within}
@@ -42,7 +42,7 @@ start client = record {
 
 -- Entries
 
-abbrev pub frame_in : Entry → Frame
+abbrev pub frame_in : LogEntry → Frame
 frame_in (Handed f) = f
 frame_in (Owed f) = f
 frame_in _ = frame.SettingsAck
@@ -54,13 +54,13 @@ without_reset_bytes a = record a {
   held = filter (λ e. not (has_bytes (frame_in e) && is_reset (stream_of (frame_in e)) a.log)) a.held;
 }
 
-unfoldable pub noted : Entry → Account → Account
+unfoldable pub noted : LogEntry → Account → Account
 noted e a = without_reset_bytes (record a { log = e ∷ a.log })
 
 abbrev pub queue_with : Frame → Account → Account
 queue_with f a = record a { waiting = entered f a.waiting }
 
-abbrev pub hold : Entry → Account → Account
+abbrev pub hold : LogEntry → Account → Account
 hold e a = record a { held = a.held ++ e ∷ [] }
 
 -- a call hands a frame over; frames of a headless stream are held until its head comes
@@ -173,12 +173,12 @@ next_number a = 2 * length (opened a.log) + 1
 abbrev pub answered : Account → Account
 answered a = record a { unreported = drop 1 a.unreported }
 
-abbrev pub released : List Entry → Account → Account
+abbrev pub released : List LogEntry → Account → Account
 released [] a = a
 released (Owed f ∷ held) a = released held (queue_with f (noted (Owed f) a))
 released (e ∷ held) a = released held (queue_with (frame_in e) a)
 
-abbrev pub is_of : ℕ → Entry → Bool
+abbrev pub is_of : ℕ → LogEntry → Bool
 is_of id e = stream_of (frame_in e) == id
 
 -- a block goes out, and behind it what was held for it

@@ -14,3 +14,5 @@ pub mod Calls
 pub mod State
 pub mod Moves
 pub mod Valid
+pub mod Numbers
+pub mod Known

@@ -1,4 +1,4 @@
--- How what a session keeps changes, entry by entry of the log. The laws of `h2_arrivals` and `h2_calls` say that these
+-- How what a session keeps changes, entry by entry of the log. The laws of `h2_laws_log` say that these
 -- are the changes of the sums.
 use Rattle.std.specs.Prelude.{ℕ, zero, suc, ◌+◌, ◌-◌, Bool, true, false, not, ◌&&◌, ◌||◌, List, [], ◌∷◌, ◌++◌, length, Option, Some, None, if◌then◌else◌, ◌==◌, filter, filter_map, pos, ◌+ℤ◌, ◌-ℤ◌}
 use Rattle.ext_msgs.specs.declared.lists.Field.{Field}
@@ -8,10 +8,10 @@ use Rattle.h2_frames.specs.declared.frame.Frame.TheVariants as frame
 use Rattle.h2_model.specs.declared.answers.Event.{Event}
 use Rattle.h2_model.specs.declared.answers.Event.TheVariants as event
 use Rattle.h2_model.specs.declared.stream.Stream.{Stream}
-use Rattle.h2_model.specs.Log.{Entry, Handed, Owed, stream_of}
+use Rattle.h2_model.specs.Log.{LogEntry, Handed, Owed, stream_of}
 use Rattle.h2_model.specs.Settings.{setting_in, least_in}
 use Rattle.h2_model.specs.Blocks.{OpenBlock, more_of, table_or}
-use Rattle.h2_model.specs.Queue.{Waiting, is_free, has_bytes, entered, queued, behind}
+use Rattle.h2_model.specs.Queue.{Waiting, is_free, has_bytes, entered, queued}
 use Rattle.h2_model.specs.StreamFaults.{is_interim}
 use Rattle.h2_model.specs.Windows.{held_data}
 use Rattle.h2_model.specs.History.{frame_in}
@@ -48,13 +48,13 @@ opening id s = record s { streams = s.streams ++ new_stream id ∷ [] }
 abbrev pub is_dropped : ℕ → Waiting → Bool
 is_dropped id w = is_free w && has_bytes w.frame && (stream_of w.frame == id)
 
-abbrev pub is_dropped_entry : ℕ → Entry → Bool
+abbrev pub is_dropped_entry : ℕ → LogEntry → Bool
 is_dropped_entry id e = has_bytes (frame_in e) && (stream_of (frame_in e) == id)
 
 abbrev pub kept_waiting : ℕ → List Waiting → List Waiting
 kept_waiting id queue = filter (λ w. not (is_dropped id w)) queue
 
-abbrev pub kept_held : ℕ → List Entry → List Entry
+abbrev pub kept_held : ℕ → List LogEntry → List LogEntry
 kept_held id held = filter (λ e. not (is_dropped_entry id e)) held
 
 abbrev pub dropped_bytes : ℕ → State → ℕ
@@ -144,7 +144,7 @@ charged _ s = s
 abbrev pub queueing : Frame → State → State
 queueing f s = record s { waiting = entered f s.waiting }
 
-abbrev pub holding : Entry → State → State
+abbrev pub holding : LogEntry → State → State
 holding e s = record s { held = s.held ++ e ∷ [] }
 
 unfoldable pub owing_frame : Bool → Frame → State → State

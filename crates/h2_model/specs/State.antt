@@ -1,10 +1,10 @@
 -- What a session keeps of its account: each part is a filter or a sum over the log.
-use Rattle.std.specs.Prelude.{ℕ, Bool, List, [], ◌++◌, Option, Some, None, if◌then◌else◌, filter_map, reverse, ℤ, pos, ◌-ℤ◌}
+use Rattle.std.specs.Prelude.{ℕ, ◌==◌, Bool, List, [], ◌++◌, Option, Some, None, if◌then◌else◌, find, filter_map, reverse, ℤ, pos, ◌-ℤ◌}
 use Rattle.std.specs.List.{list_any, list_all}
 use Rattle.hpack_core.specs.Tables as hpack
 use Rattle.h2_model.specs.declared.answers.Event.{Event}
 use Rattle.h2_model.specs.declared.stream.Stream.{Stream}
-use Rattle.h2_model.specs.Log.{Entry, Log, violation, total}
+use Rattle.h2_model.specs.Log.{LogEntry, violation, total}
 use Rattle.h2_model.specs.Streams.{opened, is_live, is_ended_by_peer, is_ended_here, heads_got}
 use Rattle.h2_model.specs.Settings.{initial_window, stream_limit, table_limit, known_limit}
 use Rattle.h2_model.specs.Blocks.{OpenBlock, open_block, blocks, table_after}
@@ -30,6 +30,10 @@ stream_of_log id a = record {
 unfoldable pub live : ℕ → Account → Option Stream
 live id a = if is_live id a.log then Some (stream_of_log id a) else None
 
+-- a stream that is kept, by its number
+abbrev pub found : ℕ → List Stream → Option Stream
+found id streams = find (λ s. s.id == id) streams
+
 -- the live streams of these, in their order
 abbrev pub live_among : List ℕ → Account → List Stream
 live_among ids a = filter_map (λ id. live id a) ids
@@ -41,7 +45,7 @@ streams a = live_among (reverse (opened a.log)) a
 pub record State : Type 0 where
   pub first : Bool  -- no frame came yet
   pub block : Option OpenBlock
-  pub table : hpack.State
+  pub table : hpack.TableState
   pub known : ℕ  -- the table size of which the last block knew
   pub limit : ℕ  -- and the one of which the next will know
   pub initial : ℕ  -- SETTINGS_INITIAL_WINDOW_SIZE
@@ -53,7 +57,7 @@ pub record State : Type 0 where
   pub unreturned : ℕ  -- the bytes that came since its last window update
   pub streams : List Stream
   pub waiting : List Waiting
-  pub held : List Entry
+  pub held : List LogEntry
   pub unreported : List Event
 
 unfoldable pub seen : Account → State

@@ -7,9 +7,9 @@ use Rattle.h2_model.specs.declared.answers.Event.{Event}
 use Rattle.h2_model.specs.declared.answers.Event.TheVariants as event
 use Rattle.h2_model.specs.declared.stream_state.StreamState.{StreamState}
 use Rattle.h2_model.specs.declared.stream_state.StreamState.TheVariants.{Idle, Active, HalfClosedLocal, HalfClosedRemote, Closed}
-use Rattle.h2_model.specs.Log.{Entry, Log, Opened, Received, Block, Handed, Owed, Reported, events}
+use Rattle.h2_model.specs.Log.{LogEntry, Log, Opened, Received, Block, Handed, Owed, Reported, events}
 
-abbrev pub opening : Entry → Option ℕ
+abbrev pub opening : LogEntry → Option ℕ
 opening (Opened n) = Some n
 opening _ = None
 
@@ -26,19 +26,19 @@ greatest (n ∷ ns) = max n (greatest ns)
 
 -- A reset of either end: by the peer, by its GOAWAY or by a fault of the stream, each of which is reported; by a call; or
 -- at once, of one stream too many.
-abbrev pub resets : ℕ → Entry → Bool
+abbrev pub resets : ℕ → LogEntry → Bool
 resets id (Reported (event.Reset n code)) = n == id
 resets id (Handed (frame.Reset n code)) = n == id
 resets id (Owed (frame.Reset n code)) = n == id
 resets id _ = false
 
 -- END_STREAM of the peer stands on DATA, or on the HEADERS whose block is whole
-abbrev pub ends_from_peer : ℕ → Entry → Bool
+abbrev pub ends_from_peer : ℕ → LogEntry → Bool
 ends_from_peer id (Received (frame.Data n bytes last size)) = (n == id) && last
 ends_from_peer id (Block n bytes last) = (n == id) && last
 ends_from_peer id _ = false
 
-abbrev pub ends_from_here : ℕ → Entry → Bool
+abbrev pub ends_from_here : ℕ → LogEntry → Bool
 ends_from_here id (Handed (frame.Data n bytes last size)) = (n == id) && last
 ends_from_here id (Handed (frame.Headers n block last ends)) = (n == id) && last
 ends_from_here id _ = false
@@ -61,7 +61,7 @@ abbrev pub live_streams : Log → List ℕ
 live_streams log = filter (λ id. is_live id log) (opened log)
 
 -- a block of the stream was handed over
-abbrev pub is_block_of : ℕ → Entry → Bool
+abbrev pub is_block_of : ℕ → LogEntry → Bool
 is_block_of id (Handed (frame.Headers n block last ends)) = n == id
 is_block_of id _ = false
 

@@ -1,7 +1,7 @@
 -- What holds of every account that calls lead to.
-use Rattle.std.specs.Prelude.{ℕ, ◌+◌, ◌≡◌, ◌≤◌, ◌<◌, Bool, true, false, not, ◌&&◌, ◌||◌, ◌==◌, List, [], ◌∷◌, filter, All}
+use Rattle.std.specs.Prelude.{ℕ, ◌+◌, ◌≡◌, ◌≤◌, ◌<◌, Bool, true, false, ◌&&◌, ◌||◌, ◌==◌, List, [], ◌∷◌, All}
 use Rattle.h2_frames.specs.declared.frame.Frame.TheVariants as frame
-use Rattle.h2_model.specs.Log.{Entry, Log, Owed, Handed, stream_of, total}
+use Rattle.h2_model.specs.Log.{LogEntry, Log, Owed, stream_of, total}
 use Rattle.h2_model.specs.Streams.{opened, is_opened, is_live, is_reset, is_ended_by_peer, is_ended_here, heads_got}
 use Rattle.h2_model.specs.Queue.{Waiting, is_free, has_bytes}
 use Rattle.h2_model.specs.Account.{Account}
@@ -29,13 +29,13 @@ pub record Untouched (id : ℕ) (a : Account) : Type 0 where
 abbrev pub is_lost : Log → Waiting → Bool
 is_lost log w = is_free w && has_bytes w.frame && is_reset (stream_of w.frame) log
 
-abbrev pub is_lost_entry : Log → Entry → Bool
+abbrev pub is_lost_entry : Log → LogEntry → Bool
 is_lost_entry log e = has_bytes (frame_in e) && is_reset (stream_of (frame_in e)) log
 
 abbrev pub is_of_opened : Log → ℕ → Bool
 is_of_opened log id = (id == 0) || is_opened id log
 
-abbrev pub is_update_owed : Entry → Bool
+abbrev pub is_update_owed : LogEntry → Bool
 is_update_owed (Owed (frame.Window id n)) = true
 is_update_owed _ = false
 

@@ -6,7 +6,7 @@ use Rattle.h2_frames.specs.declared.frame.Setting.{Setting}
 use Rattle.h2_frames.specs.declared.frame.Frame.{Frame}
 use Rattle.h2_frames.specs.declared.frame.Frame.TheVariants as frame
 use Rattle.h2_model.specs.Codes.{first_row, protocol_error, flow_control_error, compression_error, enhance_your_calm}
-use Rattle.h2_model.specs.Log.{Entry, Received}
+use Rattle.h2_model.specs.Log.{LogEntry, Received}
 use Rattle.h2_model.specs.Streams.{opened, is_opened, greatest, is_live, live_streams}
 use Rattle.h2_model.specs.Blocks.{OpenBlock, Decoded, open_block, block_with, decoded_with}
 use Rattle.h2_model.specs.Account.{Account}
@@ -14,7 +14,7 @@ use Rattle.h2_model.specs.Windows.{window_from, is_too_wide, receiving_window}
 
 -- The first frame is SETTINGS, no acknowledgement
 
-abbrev pub is_received : Entry → Bool
+abbrev pub is_received : LogEntry → Bool
 is_received (Received f) = true
 is_received _ = false
 

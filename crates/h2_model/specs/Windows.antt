@@ -1,7 +1,7 @@
 -- Flow-control windows, as sums over the log: RFC 9113 section 6.9. Number 0 is the connection.
 use Rattle.std.specs.Prelude.{ℕ, ◌+◌, ◌-◌, Bool, ◌||◌, List, [], ◌∷◌, length, if◌then◌else◌, ◌==◌, ℤ, pos, ◌-ℤ◌, int_lt}
 use Rattle.h2_frames.specs.declared.frame.Frame.TheVariants as frame
-use Rattle.h2_model.specs.Log.{Entry, Log, Received, Handed, Owed, Given, total}
+use Rattle.h2_model.specs.Log.{LogEntry, Log, Received, Handed, Owed, Given, total}
 use Rattle.h2_model.specs.Settings.{initial_window}
 use Rattle.h2_model.specs.Queue.{data_in, queued}
 use Rattle.h2_model.specs.Account.{Account}
@@ -12,17 +12,17 @@ is_for id n = (id == 0) || (n == id)
 -- Sending: the initial size, plus the increments received, less the DATA sent. DATA counts from `send` on; bytes that a
 -- reset drops before they went give their part back, and those that a connection error drops don't.
 
-abbrev pub increment : ℕ → Entry → ℕ
+abbrev pub increment : ℕ → LogEntry → ℕ
 increment id (Received (frame.Window n k)) = if n == id then k else 0
 increment id _ = 0
 
 -- bytes of DATA that went out
-abbrev pub data_given : ℕ → Entry → ℕ
+abbrev pub data_given : ℕ → LogEntry → ℕ
 data_given id (Given (frame.Data n bytes last size)) = if is_for id n then length bytes else 0
 data_given id _ = 0
 
 -- bytes of DATA among entries
-abbrev pub held_data : ℕ → List Entry → ℕ
+abbrev pub held_data : ℕ → List LogEntry → ℕ
 held_data id [] = 0
 held_data id (Handed f ∷ held) = data_in id f + held_data id held
 held_data id (e ∷ held) = held_data id held
@@ -48,15 +48,15 @@ is_too_wide n = int_lt (pos 2147483647) n
 
 -- Receiving: 65,535, plus the increments that went out whole, less the DATA received, with its padding
 
-abbrev pub data_received : ℕ → Entry → ℕ
+abbrev pub data_received : ℕ → LogEntry → ℕ
 data_received id (Received (frame.Data n bytes last size)) = if is_for id n then size else 0
 data_received id _ = 0
 
-abbrev pub increment_given : ℕ → Entry → ℕ
+abbrev pub increment_given : ℕ → LogEntry → ℕ
 increment_given id (Given (frame.Window n k)) = if n == id then k else 0
 increment_given id _ = 0
 
-abbrev pub increment_owed : ℕ → Entry → ℕ
+abbrev pub increment_owed : ℕ → LogEntry → ℕ
 increment_owed id (Owed (frame.Window n k)) = if n == id then k else 0
 increment_owed id _ = 0
 

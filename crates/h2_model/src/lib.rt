@@ -23,11 +23,13 @@
 #![tactic(auto)]
 
 mod answers;
+mod gap;
 mod laws;
 mod stream;
 mod stream_state;
 
 pub use answers::{Event, Fed, NoStream, SessionFault};
+pub use gap::Gap;
 pub use laws::{
     bytes_in_any_cut, first_violation_stays, given_bytes_are_dropped, log_only_grows,
     no_violation_at_first, states_of_live_streams, windows_are_sums,

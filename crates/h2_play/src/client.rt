@@ -3,7 +3,7 @@
 ghost use Rattle.std.specs.Prelude.{◌≡◌, ◌<◌, ◌^◌, ◌∷◌, All, IfOk, List, OnOk, length, true};
 ghost use Rattle.h2_model.specs.Calls.{Role, kept_streams, now};
 ghost use Rattle.h2_model.specs.History.{Call, Open};
-ghost use Rattle.h2_stands.specs.StandsFor.{Stands, StandsFor};
+ghost use Rattle.h2_laws_kept.specs.StandsFor.{Stands, StandsFor};
 
 use anyhow::{Result, bail};
 use ext_msgs::{Field, FieldList};

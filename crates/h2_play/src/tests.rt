@@ -1,7 +1,7 @@
 //! Calls of a client's owner, where the session says that they may be made.
 
 ghost use Rattle.std.specs.Prelude.{OnOk};
-ghost use Rattle.h2_stands.specs.StandsFor.{Stands};
+ghost use Rattle.h2_laws_kept.specs.StandsFor.{Stands};
 
 use crate::client::{ask, asking, opening};
 use h2_session::Session;

@@ -1,12 +1,12 @@
 -- The sums stay bounded as DATA comes and goes.
 use Rattle.std.proofs.Common.{arith, ◌≡◌, ◌≤◌, ◌<◌, ◌+◌, ◌^◌, ℕ, zero, suc, List, ℤ, pos, ◌+ℤ◌, ◌-ℤ◌, ◌≤ℤ◌}
 use Rattle.std.proofs.lemmas.Int.{ints}
-use Rattle.h2_model.specs.Log.{Entry}
+use Rattle.h2_model.specs.Log.{LogEntry}
 use Rattle.h2_model.specs.Queue.{Waiting}
 use Rattle.h2_sender.specs.Sending.{IsBounded, data_kept}
 
 -- a frame comes, and DATA takes its length of the window
-pub bounded_more : (waiting next : List Waiting) (held then : List Entry) (window left : ℤ) (n : ℕ)
+pub bounded_more : (waiting next : List Waiting) (held then : List LogEntry) (window left : ℤ) (n : ℕ)
     → IsBounded waiting held window → data_kept next then ≡ data_kept waiting held + n
     → (0 < n → data_kept waiting held + n ≤ 2 ^ 40) → (0 < n → pos n ≤ℤ window) → left ≡ window -ℤ pos n → IsBounded next then left
 bounded_more waiting next held then window left zero h sum fits enough is =
@@ -26,7 +26,7 @@ fits_alone m zero h = omega arith
 fits_alone m (suc n) h = let all : m + suc n ≤ 2 ^ 40 = h (omega arith) in omega arith
 
 -- DATA goes, and gives some of its length back
-pub bounded_less : (waiting next : List Waiting) (held then : List Entry) (window left : ℤ) (n : ℕ)
+pub bounded_less : (waiting next : List Waiting) (held then : List LogEntry) (window left : ℤ) (n : ℕ)
     → IsBounded waiting held window → data_kept next then + n ≤ data_kept waiting held → left ≡ window +ℤ pos n
     → IsBounded next then left
 bounded_less waiting next held then window left n h sum is =

@@ -1,28 +1,17 @@
 -- The DATA that waits and is held, as frames come and go.
 use Rattle.std.proofs.Common.{arith, rules, ◌≡◌, ◌≤◌, ◌<◌, ◌+◌, ◌-◌, ℕ, Bool, true, false, not, List, [], ◌∷◌, ◌++◌, length, get_or, take, drop, refl, sym, ap, ◌∙◌, filter, cond, if◌then◌else◌, ◌==◌, ◌||◌, nat_lt}
 use Rattle.std.proofs.lemmas.List.{take_more, take-append-drop}
-use Rattle.h2_calls.proofs.Queues.{held-append, held-split, queued-cons, queued-split}
+use Rattle.h2_laws_log.proofs.Queues.{held-append, held-split, queued-cons, queued-split}
 use Rattle.h2_frames.specs.declared.frame.Frame.{Frame}
 use Rattle.h2_frames.specs.declared.frame.Frame.TheVariants as frame
-use Rattle.h2_model.specs.Log.{Entry, Handed}
-use Rattle.h2_model.specs.History.{frame_in}
+use Rattle.h2_model.specs.Log.{LogEntry, Handed}
 use Rattle.h2_model.specs.Moves.{is_dropped_entry, kept_held}
 use Rattle.h2_model.specs.Queue.{Waiting, is_free, fresh, placed, entered, queued, data_in, behind}
 use Rattle.h2_model.specs.Windows.{held_data}
 use Rattle.h2_sender.specs.Sending.{entry_of, IsHeld, IsGoaway}
+use Rattle.h2_sender.proofs.Totals.{data_of_one}
 
 -- an entry is what its frame is
-
-pub frame_is : (owed : Bool) (f : Frame) → frame_in (entry_of owed f) ≡ f
-frame_is true f = refl
-frame_is false f = refl
-
-data_of_one : (id : ℕ) (f : Frame) → data_in id f ≤ data_in 0 f
-data_of_one id (frame.Data n bytes last size) = by_test ((id == 0) || (n == id)) where
-  by_test : (own : Bool) → cond own (length bytes) 0 ≤ length bytes
-  by_test true = omega arith
-  by_test false = omega arith
-data_of_one id f = search rules
 
 pub data_is : (id : ℕ) (owed : Bool) (f : Frame) → IsHeld owed f → data_in id f ≡ held_data id (entry_of owed f ∷ [])
 data_is id true f h =
@@ -33,27 +22,27 @@ data_is id false f h = omega arith
 
 -- sums over the first entries
 
-pub held-next : (id : ℕ) (held : List Entry) (i : ℕ) (x : Entry) → i < length held → x ≡ get_or held i x
+pub held-next : (id : ℕ) (held : List LogEntry) (i : ℕ) (x : LogEntry) → i < length held → x ≡ get_or held i x
     → held_data id (take (i + 1) held) ≡ held_data id (take i held) + held_data id (x ∷ [])
 held-next id held i x h e =
     ap (held_data id) (take_more held i x h) ∙ held-append id (take i held) (get_or held i x ∷ [])
     ∙ ap (λ y. held_data id (take i held) + held_data id (y ∷ [])) (sym e)
 
-pub held-part : (id : ℕ) (held : List Entry) (i : ℕ) → held_data id (take i held) ≤ held_data id held
+pub held-part : (id : ℕ) (held : List LogEntry) (i : ℕ) → held_data id (take i held) ≤ held_data id held
 held-part id held i =
     let both : held_data id (take i held ++ drop i held) ≡ held_data id (take i held) + held_data id (drop i held) = held-append id (take i held) (drop i held) in
     let whole : held_data id (take i held ++ drop i held) ≡ held_data id held = ap (held_data id) (take-append-drop i held) in
     omega arith
 
 -- one stream has no more than all
-pub held-of-one : (id : ℕ) (held : List Entry) → held_data id held ≤ held_data 0 held
+pub held-of-one : (id : ℕ) (held : List LogEntry) → held_data id held ≤ held_data 0 held
 held-of-one id [] = omega arith
 held-of-one id (Handed f ∷ held) = omega (arith, data_of_one id f, held-of-one id held)
 held-of-one id (e ∷ held) = held-of-one id held
 
 -- what goes leaves less
 
-pub held-less : (id : ℕ) (held : List Entry) → held_data 0 (kept_held id held) ≤ held_data 0 held
+pub held-less : (id : ℕ) (held : List LogEntry) → held_data 0 (kept_held id held) ≤ held_data 0 held
 held-less id held = omega (arith, held-split 0 (is_dropped_entry id) held)
 
 pub queued-less : (p : Waiting → Bool) (queue : List Waiting) → queued 0 (filter p queue) ≤ queued 0 queue

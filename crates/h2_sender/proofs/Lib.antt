@@ -1,3 +1,10 @@
+pub mod Copies
+pub mod Blocks
+pub mod Placed
+pub mod Ends
+pub mod Totals
+pub mod Gives
+pub mod Spelled
 pub mod Data
 pub mod Release
 pub mod Bounds

@@ -1,29 +1,24 @@
 -- Frames that are held for a stream enter the queue one by one.
-use Rattle.std.proofs.Common.{arith, ◌≡◌, ◌≤◌, ◌+◌, ◌^◌, ℕ, true, false, not, List, [], ◌∷◌, ◌++◌, length, refl, sym, ap, ◌∙◌, filter}
-use Rattle.std.proofs.lemmas.List.{append_assoc}
-use Rattle.h2_calls.proofs.Queues.{queued-entered, held-append}
-use Rattle.h2_calls.specs.Calling.{all_entered}
+use Rattle.std.proofs.Common.{arith, ◌≡◌, ◌≤◌, ◌+◌, ◌^◌, ℕ, true, not, List, [], ◌∷◌, ◌++◌, length, refl, sym, ap, ◌∙◌, filter}
+use Rattle.h2_laws_log.proofs.Queues.{queued-entered, held-append}
+use Rattle.h2_laws_log.specs.Calling.{all_entered}
 use Rattle.h2_frames.specs.declared.frame.Frame.{Frame}
-use Rattle.h2_model.specs.Log.{Entry}
+use Rattle.h2_model.specs.Log.{LogEntry}
 use Rattle.h2_model.specs.History.{frame_in, is_of}
 use Rattle.h2_model.specs.Queue.{queued, data_in, entered}
 use Rattle.h2_model.specs.Windows.{held_data}
-use Rattle.h2_queue.specs.Queue.{Queue}
+use Rattle.h2_sender.specs.Queue.{Queue}
 
 -- of what was held before, `front` stays, and `rest` wasn't looked at
-pub record IsReleasing (id : ℕ) (before : List Entry) (start : Queue) (front rest : List Entry) (now : Queue) : Type 0 where
+pub record IsReleasing (id : ℕ) (before : List LogEntry) (start : Queue) (front rest : List LogEntry) (now : Queue) : Type 0 where
   pub waiting : all_entered (filter (is_of id) rest) now.frames ≡ all_entered (filter (is_of id) before) start.frames
   pub kept : front ++ filter (λ e. not (is_of id e)) rest ≡ filter (λ e. not (is_of id e)) before
   pub room : length (filter (is_of id) rest) ≤ now.room
   pub spent : start.room + length (filter (is_of id) rest) ≤ now.room + length (filter (is_of id) before)
   pub summed : queued 0 now.frames + held_data 0 (front ++ rest) ≡ queued 0 start.frames + held_data 0 before
 
-pub starts : (id : ℕ) (before : List Entry) (start : Queue) → length (filter (is_of id) before) ≤ start.room
-    → IsReleasing id before start [] before start
-starts id before start h = record { waiting = refl; kept = refl; room = h; spent = omega arith; summed = refl }
-
 -- the next one is of the stream, and enters
-pub taken : (id : ℕ) (before : List Entry) (start : Queue) (front : List Entry) (x : Entry) (rest : List Entry) (now next : Queue)
+pub taken : (id : ℕ) (before : List LogEntry) (start : Queue) (front : List LogEntry) (x : LogEntry) (rest : List LogEntry) (now next : Queue)
     (f : Frame)
     → IsReleasing id before start front (x ∷ rest) now → is_of id x ≡ true → f ≡ frame_in x → data_in 0 f ≡ held_data 0 (x ∷ [])
     → next.frames ≡ entered f now.frames → now.room ≤ next.room + 1
@@ -49,26 +44,8 @@ taken id before start front x rest now next f h own same bytes enters room =
       summed = omega arith;
     }
 
--- the next one is of another stream, and stays
-pub passed : (id : ℕ) (before : List Entry) (start : Queue) (front : List Entry) (x : Entry) (rest : List Entry) (now : Queue)
-    → IsReleasing id before start front (x ∷ rest) now → is_of id x ≡ false
-    → IsReleasing id before start (front ++ x ∷ []) rest now
-passed id before start front x rest now h other =
-    let found : filter (is_of id) (x ∷ rest) ≡ filter (is_of id) rest = rw other refl in
-    let kept : filter (λ e. not (is_of id e)) (x ∷ rest) ≡ x ∷ filter (λ e. not (is_of id e)) rest = rw other refl in
-    let roomy : length (filter (is_of id) (x ∷ rest)) ≤ now.room = h.room in
-    let spent : start.room + length (filter (is_of id) (x ∷ rest)) ≤ now.room + length (filter (is_of id) before) = h.spent in
-    let count : length (filter (is_of id) (x ∷ rest)) ≡ length (filter (is_of id) rest) = ap length found in
-    record {
-      waiting = ap (λ es. all_entered es now.frames) (sym found) ∙ h.waiting;
-      kept = append_assoc front (x ∷ []) (filter (λ e. not (is_of id e)) rest) ∙ ap (λ es. front ++ es) (sym kept) ∙ h.kept;
-      room = omega arith;
-      spent = omega arith;
-      summed = ap (λ es. queued 0 now.frames + held_data 0 es) (append_assoc front (x ∷ []) rest) ∙ h.summed;
-    }
-
 -- the queue takes it
-pub fits : (id : ℕ) (before : List Entry) (start : Queue) (front : List Entry) (x : Entry) (rest : List Entry) (now : Queue) (f : Frame)
+pub fits : (id : ℕ) (before : List LogEntry) (start : Queue) (front : List LogEntry) (x : LogEntry) (rest : List LogEntry) (now : Queue) (f : Frame)
     → IsReleasing id before start front (x ∷ rest) now → data_in 0 f ≡ held_data 0 (x ∷ [])
     → queued 0 start.frames + held_data 0 before ≤ 2 ^ 40 → queued 0 now.frames + data_in 0 f ≤ 2 ^ 40
 fits id before start front x rest now f h bytes bound =

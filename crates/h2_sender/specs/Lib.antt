@@ -1,1 +1,4 @@
+pub mod Outgoing
+pub mod Queue
+pub mod Places
 pub mod Sending

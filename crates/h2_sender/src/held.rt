@@ -2,17 +2,18 @@
 
 ghost use Rattle.std.specs.Prelude.{◌≡◌, ◌≤◌, ◌-◌, ◌+◌, ◌^◌, ◌∷◌, [], length, min, not, filter, vec_len, vec_capacity};
 ghost use Rattle.std.specs.List.{list_any};
-ghost use Rattle.h2_calls.specs.Calling.{all_entered};
+ghost use Rattle.h2_laws_log.specs.Calling.{all_entered};
 ghost use Rattle.h2_model.specs.Log.{stream_of};
 ghost use Rattle.h2_model.specs.History.{frame_in, is_of};
 ghost use Rattle.h2_model.specs.Moves.{kept_held};
 ghost use Rattle.h2_model.specs.Queue.{has_bytes, data_in};
 ghost use Rattle.h2_model.specs.Windows.{held_data};
-ghost use Rattle.h2_queue.specs.Outgoing.{IsSendable};
+ghost use Rattle.h2_sender.specs.Outgoing.{IsSendable};
 ghost use Rattle.h2_sender.specs.Sending.{entry_control, held_control, data_kept};
 
+use crate::frames::{data_in, has_bytes, is_data, len_of, stream_of};
+use crate::queue::FrameQueue;
 use h2_frames::Frame;
-use h2_queue::{FrameQueue, data_in, has_bytes, is_data, len_of, stream_of};
 use std::marker::Model;
 
 /// A frame that is held until its stream's head comes.
@@ -24,10 +25,10 @@ pub(crate) struct Held {
 }
 
 impl Model for Held {
-    ghost use Rattle.h2_model.specs.Log.{Entry};
+    ghost use Rattle.h2_model.specs.Log.{LogEntry};
     ghost use Rattle.h2_sender.specs.Sending.{entry_of, IsHeld};
 
-    ghost Value = { Entry };
+    ghost Value = { LogEntry };
 
     ghost view = { λ h. entry_of h.owed h.frame };
 

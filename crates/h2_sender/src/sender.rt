@@ -4,16 +4,17 @@ ghost use Rattle.std.specs.Prelude.{◌≡◌, ◌≤◌, ◌<◌, ◌+◌, ◌-
 ghost use Rattle.h2_model.specs.History.{start, is_of};
 ghost use Rattle.h2_model.specs.Moves.{kept_waiting, kept_held};
 ghost use Rattle.h2_model.specs.Queue.{entered, data_in, is_free, fresh, flow, behind, whole_within};
-ghost use Rattle.h2_queue.specs.Outgoing.{IsSendable};
+ghost use Rattle.h2_sender.specs.Outgoing.{IsSendable};
 ghost use Rattle.std.specs.List.{list_any};
 ghost use Rattle.std.specs.Option.{option_to_list};
-ghost use Rattle.h2_calls.specs.Calling.{all_entered};
+ghost use Rattle.h2_laws_log.specs.Calling.{all_entered};
 ghost use Rattle.h2_model.specs.Windows.{held_data};
 ghost use Rattle.h2_sender.specs.Sending.{entry_of, data_kept, dropped_of, IsGoaway, held_control, control_of, unsent_of, waits_in};
 
+use crate::frames::data_in;
 use crate::held::{Held, drop_held, held_control, held_data, held_data_of, holds, release_held};
+use crate::queue::{FrameQueue, Taken};
 use h2_frames::Frame;
-use h2_queue::{FrameQueue, Taken, data_in};
 use std::alloc::{AllocError, Global};
 use std::marker::Model;
 

@@ -16,22 +16,22 @@ use Rattle.h2_model.specs.Log.{violation}
 use Rattle.h2_model.specs.Moves.{receiving, reported}
 use Rattle.h2_model.specs.State.{State, seen, streams}
 use Rattle.h2_model.specs.Streams.{is_opened}
-use Rattle.h2_arrivals.specs.Steps.{arriving, opening_for, owing_frames}
-use Rattle.h2_arrivals.proofs.Arrives.{Ready, no-violation}
-use Rattle.h2_rules.specs.Rows.{early_rows}
-use Rattle.h2_rules.proofs.Table.{code_of}
-use Rattle.h2_stands.specs.Arriving.{Breaks, Brings}
-use Rattle.h2_stands.specs.Kept.{IsBeside, IsSame, Kept, lacks_head}
-use Rattle.h2_stands.specs.Rooms.{HasSpare, IsRoomy, KeepsCapacity}
-use Rattle.h2_stands.specs.StandsFor.{Holds, Lacks}
-use Rattle.h2_stands.proofs.Holding.{IsOutside, lacks-as, lacks-kept, state-sound}
-use Rattle.h2_stands.proofs.Roominess.{Comes}
+use Rattle.h2_laws_log.specs.Steps.{arriving, opening_for, owing_frames}
+use Rattle.h2_laws_log.proofs.Arrives.{Ready, no-violation}
+use Rattle.h2_streams.specs.Rows.{early_rows}
+use Rattle.h2_streams.specs.Rows.{code_of}
+use Rattle.h2_laws_kept.specs.Arriving.{Breaks, Brings}
+use Rattle.h2_laws_kept.specs.Kept.{IsBeside, IsSame, Kept, lacks_head}
+use Rattle.h2_laws_kept.specs.Rooms.{HasSpare, IsRoomy, KeepsCapacity}
+use Rattle.h2_laws_kept.specs.StandsFor.{Holds, Lacks}
+use Rattle.h2_laws_kept.proofs.Holding.{IsOutside, lacks-as, lacks-kept, state-sound}
+use Rattle.h2_laws_kept.proofs.Roominess.{Comes}
 use Rattle.h2_session.specs.Accepting.{IsAccepted, IsReady, Settles}
 use Rattle.h2_session.specs.Arrivals.{CanOpen, IsUndecoded, KeepsParts, numbers_with}
 use Rattle.h2_session.specs.Refused.{refused}
 use Rattle.h2_session.specs.Steps.{IsDecoded, IsTold, ending, refused_ids, resetting_all, whole_with}
 use Rattle.h2_session.specs.declared.judging.Whole.{Whole}
-use Rattle.h2_streams.specs.Opened.{has}
+use Rattle.h2_model.specs.Numbers.{has}
 use Rattle.h2_session.proofs.Apart.{opening-begun, opening-keeps, opening-table}
 use Rattle.h2_session.proofs.Arrived.{arrived-is, breaks, holds-after, is-on, is-whole, late-breaks, opening-ready, passes-all, short-block, still-sound, whole-is}
 use Rattle.h2_session.proofs.Arriving.{arrived-unreported, arrives-as}
@@ -137,7 +137,7 @@ module _ (k : Kept) (f : Frame) (w : Option Whole) (a : Account) (p : IsAccepted
         ∙ ap (λ (x : State). record x { table = k.state.table }) (sym ready.state)
 
     seen-on : m.state ≡ record (seen b) { table = m.state.table }
-    seen-on = seen-opened ∙ ap (λ (t : hpack.State). record (seen b) { table = t }) (sym (ap (λ (x : State). x.table) seen-opened))
+    seen-on = seen-opened ∙ ap (λ (t : hpack.TableState). record (seen b) { table = t }) (sym (ap (λ (x : State). x.table) seen-opened))
 
     client : m.client ≡ b.client
     client = o2.client ∙ o1.client ∙ role ∙ sym (opening-client f a)

@@ -1,5 +1,5 @@
 -- Accounts that the same parts hold agree on what calls ask: on live streams, on the next head and on the streams that are kept.
-use Rattle.std.proofs.Common.{◌≡◌, ℕ, ◌≤◌, ◌<◌, Bool, true, false, not, ◌&&◌, ◌||◌, ◌==◌, List, [], ◌∷◌, filter, find, reverse, Option, Some, None, refl, sym, ◌∙◌, ap, subst, if◌then◌else◌, is_some, All, arith, eqb-true, true≢false, ⊎_elim, inl, inr}
+use Rattle.std.proofs.Common.{◌≡◌, ℕ, ◌≤◌, ◌<◌, Bool, true, false, not, ◌&&◌, ◌||◌, ◌==◌, List, [], ◌∷◌, filter, reverse, Option, Some, None, refl, sym, ◌∙◌, ap, subst, if◌then◌else◌, is_some, All, arith, eqb-true, true≢false, ⊎_elim, inl, inr}
 use Rattle.std.specs.List.{list_any}
 use Rattle.std.proofs.lemmas.Bool.{cases_lt}
 use Rattle.std.proofs.lemmas.Bool.Decides.{nat_tests}
@@ -8,16 +8,17 @@ use Rattle.h2_model.specs.declared.stream.Stream.{Stream}
 use Rattle.h2_model.specs.Streams.{opened, is_opened, is_live, is_ended_here}
 use Rattle.h2_model.specs.Account.{Account, is_headless}
 use Rattle.h2_model.specs.Calls.{MayHead, next_head, is_open_here, kept_streams, waits}
-use Rattle.h2_model.specs.State.{seen, live, stream_of_log}
+use Rattle.h2_model.specs.State.{seen, live, stream_of_log, found}
 use Rattle.h2_model.specs.Valid.{Descends}
-use Rattle.h2_model.proofs.Lives.{found, found-live}
-use Rattle.h2_calls.proofs.Lists.{both-left, both-right, same-number}
-use Rattle.h2_stands.specs.Kept.{Kept, lacks_head}
-use Rattle.h2_stands.specs.StandsFor.{Holds}
-use Rattle.h2_stands.proofs.Holding.{lacks-head}
-use Rattle.h2_stands.proofs.Heads.{first-headless}
-use Rattle.h2_stands.proofs.Lowest.{found-some}
-use Rattle.h2_stands.proofs.Answers.{waits-is}
+use Rattle.h2_model.proofs.Lives.{found-live}
+use Rattle.h2_laws_log.proofs.Lists.{both-left, both-right, same-number}
+use Rattle.h2_laws_kept.specs.Kept.{Kept, lacks_head}
+use Rattle.h2_laws_kept.specs.StandsFor.{Holds}
+use Rattle.h2_laws_kept.proofs.Holding.{lacks-head}
+use Rattle.h2_laws_kept.proofs.Heads.{first-headless}
+use Rattle.h2_laws_kept.proofs.Lowest.{found-some}
+use Rattle.h2_laws_kept.proofs.Answers.{waits-is}
+use Rattle.h2_laws_log.proofs.Unless.{found-passes}
 
 -- Live streams
 
@@ -54,14 +55,6 @@ open-same k a b h g id =
     sym (open-live id b) ∙ ap is_open (sym (found-is k b g id) ∙ found-is k a h id) ∙ open-live id a
 
 -- Heads
-
-found-passes : (p : ℕ → Bool) (xs : List ℕ) (n : ℕ) → find p xs ≡ Some n → p n ≡ true
-found-passes p [] n e = absurd cc
-found-passes p (x ∷ xs) n e = by (p x) refl (found-passes p xs n) e
-  where
-    by : (c : Bool) → p x ≡ c → (find p xs ≡ Some n → p n ≡ true) → (if c then Some x else find p xs) ≡ Some n → p n ≡ true
-    by true t ih e = let same : x ≡ n = cc in subst (λ m. p m ≡ true) same t
-    by false t ih e = ih e
 
 headless-same : (k : Kept) (a b : Account) → Holds k a → Holds k b → (id : ℕ) → is_headless b id ≡ is_headless a id
 headless-same k a b h g id = sym (lacks-head k b g id) ∙ lacks-head k a h id

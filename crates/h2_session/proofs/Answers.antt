@@ -9,15 +9,15 @@ use Rattle.h2_model.specs.Log.{is_empty, violation}
 use Rattle.h2_model.specs.Account.{Account}
 use Rattle.h2_model.specs.History.{Call, Feed, answered, called}
 use Rattle.h2_model.specs.Calls.{IsFault, IsFed, Role, event_or_nothing, now, used_bytes}
-use Rattle.h2_feeds.specs.Feeding.{EndsAt}
-use Rattle.h2_feeds.proofs.Steps.{starts, ends-stopped, answers, refuses, leaves}
-use Rattle.h2_feeds.proofs.Uses.{used-whole}
-use Rattle.h2_stands.specs.Kept.{Kept}
-use Rattle.h2_stands.specs.Arriving.{IfCode}
-use Rattle.h2_stands.specs.StandsFor.{Holds, StandsFor}
-use Rattle.h2_stands.proofs.Holding.{violation-kept}
-use Rattle.h2_stands.proofs.Histories.{one-more}
-use Rattle.h2_session.specs.Feeding.{KeepsRole, Runs, Refuses}
+use Rattle.h2_laws_log.specs.Feeding.{EndsAt}
+use Rattle.h2_laws_log.proofs.Steps.{starts, ends-stopped, answers, refuses, leaves}
+use Rattle.h2_laws_log.proofs.Uses.{used-whole}
+use Rattle.h2_laws_kept.specs.Kept.{Kept}
+use Rattle.h2_laws_kept.specs.Arriving.{IfCode}
+use Rattle.h2_laws_kept.specs.StandsFor.{Holds, StandsFor}
+use Rattle.h2_laws_kept.proofs.Holding.{violation-kept}
+use Rattle.h2_laws_kept.proofs.Histories.{one-more}
+use Rattle.h2_session.specs.Feeding.{KeepsRole, Runs, RefusesBytes}
 use Rattle.h2_session.proofs.Endings.{if-code}
 use Rattle.h2_session.proofs.Seen.{seen-unreported}
 use Rattle.h2_session.specs.Refused.{refused}
@@ -31,7 +31,7 @@ none-left : (ids : List ℕ) → ids ≡ drop 1 ids → ids ≡ []
 none-left [] e = refl
 none-left (id ∷ ids) e = absurd (omega (arith, ap length e))
 
-pub fault-of : (l : Kept) (a : Account) (bytes : List ℕ) (e : SessionFault) → IfCode (Refuses l a bytes) e → IsFault a bytes e
+pub fault-of : (l : Kept) (a : Account) (bytes : List ℕ) (e : SessionFault) → IfCode (RefusesBytes l a bytes) e → IsFault a bytes e
 fault-of l a bytes (Code code) p = p.fault
 fault-of l a bytes Memory p = tt
 
@@ -111,6 +111,6 @@ module _ (r : Role) (k : Kept) (h : List Call) (s : StandsFor r k h) (bytes : Li
       sound = violation-is ∙ v;
     }
 
-  pub fault-stands : (l : Kept) → KeepsRole (telling new k) l → (f : SessionFault) → IfCode (Refuses l a bytes) f
+  pub fault-stands : (l : Kept) → KeepsRole (telling new k) l → (f : SessionFault) → IfCode (RefusesBytes l a bytes) f
       → IfCode (λ code. StandsFor r l (Feed (used_bytes bytes a) ∷ h)) f
   fault-stands l q f p = if-code (λ code t. goes-on l q t.holds) f p

@@ -9,20 +9,20 @@ use Rattle.h2_model.specs.declared.answers.Event.TheVariants as event
 use Rattle.h2_model.specs.Log.{stream_of}
 use Rattle.h2_model.specs.State.{State}
 use Rattle.h2_model.specs.Moves.{charged, opening, owing_frame, receiving, reported, resetting, telling_all}
-use Rattle.h2_arrivals.specs.Steps.{opening_by, opening_for, owing_frames}
+use Rattle.h2_laws_log.specs.Steps.{opening_by, opening_for, owing_frames}
 use Rattle.h2_session.specs.Refused.{refused}
 use Rattle.h2_session.specs.Steps.{resetting_all}
 
 -- The table
 
-opening-by-table : (known full : Bool) (id : ℕ) (t : hpack.State) (s : State)
+opening-by-table : (known full : Bool) (id : ℕ) (t : hpack.TableState) (s : State)
     → opening_by known full id (record s { table = t }) ≡ record (opening_by known full id s) { table = t }
 unfolding opening owing_frame charged resetting
 opening-by-table true full id t s = refl
 opening-by-table false true id t s = refl
 opening-by-table false false id t s = refl
 
-pub opening-table : (known : ℕ → Bool) (f : Frame) (t : hpack.State) (s : State)
+pub opening-table : (known : ℕ → Bool) (f : Frame) (t : hpack.TableState) (s : State)
     → opening_for known f (record s { table = t }) ≡ record (opening_for known f s) { table = t }
 opening-table known (frame.Headers id part last ends) t s = opening-by-table (known id) _ id t s
 opening-table known f t s = refl
@@ -30,7 +30,7 @@ opening-table known f t s = refl
 pub opening-keeps : (known : ℕ → Bool) (f : Frame) (s : State) → (opening_for known f s).table ≡ s.table
 opening-keeps known f s = ap (λ (x : State). x.table) (opening-table known f s.table s)
 
-pub receiving-table : (f : Frame) (t : hpack.State) (s : State) → receiving f (record s { table = t }) ≡ record (receiving f s) { table = t }
+pub receiving-table : (f : Frame) (t : hpack.TableState) (s : State) → receiving f (record s { table = t }) ≡ record (receiving f s) { table = t }
 unfolding receiving
 receiving-table (frame.Window zero n) t s = refl
 receiving-table (frame.Window (suc id) n) t s = refl

@@ -15,24 +15,24 @@ use Rattle.h2_model.specs.Log.{Received, violation}
 use Rattle.h2_model.specs.State.{State, seen}
 use Rattle.h2_model.specs.Streams.{is_opened}
 use Rattle.h2_model.specs.Violations.{is_long, violation_of}
-use Rattle.h2_arrivals.specs.Steps.{arriving, opening_for, with_frame}
-use Rattle.h2_arrivals.specs.Steps as arrivals
-use Rattle.h2_arrivals.proofs.Arrives.{Ready, arrives, no-violation, ready, sound-aside}
-use Rattle.h2_arrivals.proofs.Owes.{SameStreams, owing-stays, same-headless}
-use Rattle.h2_calls.proofs.Arrivals.{arrived-sound}
-use Rattle.h2_calls.proofs.Same.{zero-unopened}
-use Rattle.h2_calls.proofs.Unless.{answered-seen, answered-sound, answered-valid}
-use Rattle.h2_feeds.proofs.Keeps.{keeps-arrived}
-use Rattle.h2_rooms.proofs.Arrives.{arrived-counted}
-use Rattle.h2_rooms.proofs.Calls.{answered-counted}
-use Rattle.h2_rules.specs.Rows.{early_rows, late_rows}
-use Rattle.h2_rules.proofs.Table.{code_of, ended-block, no-block, or_row, violation-parts}
-use Rattle.h2_stands.specs.Arriving.{Breaks}
-use Rattle.h2_stands.specs.Kept.{Kept}
-use Rattle.h2_stands.specs.Rooms.{IsRoomy}
-use Rattle.h2_stands.specs.StandsFor.{Holds, IsSound, Lacks}
-use Rattle.h2_stands.proofs.Heading.{answered-heads, arrived-heads}
-use Rattle.h2_stands.proofs.Holding.{IsOutside, lacks-as, reads-kept}
+use Rattle.h2_laws_log.specs.Steps.{arriving, opening_for}
+use Rattle.h2_laws_log.specs.Steps as arrivals
+use Rattle.h2_laws_log.proofs.Arrives.{Ready, arrives, no-violation, ready, sound-aside}
+use Rattle.h2_laws_log.proofs.Owes.{SameStreams, owing-stays, same-headless}
+use Rattle.h2_laws_log.proofs.Arrivals.{arrived-sound}
+use Rattle.h2_laws_log.proofs.Same.{zero-unopened}
+use Rattle.h2_laws_log.proofs.Unless.{answered-seen, answered-sound, answered-valid}
+use Rattle.h2_laws_log.proofs.Keeps.{keeps-arrived}
+use Rattle.h2_laws_log.proofs.RoomArrives.{arrived-counted}
+use Rattle.h2_laws_log.proofs.RoomCalls.{answered-counted}
+use Rattle.h2_streams.specs.Rows.{early_rows, late_rows, code_of}
+use Rattle.h2_streams.proofs.Rows.{ended-block, no-block, or_row, violation-parts}
+use Rattle.h2_laws_kept.specs.Arriving.{Breaks}
+use Rattle.h2_laws_kept.specs.Kept.{Kept}
+use Rattle.h2_laws_kept.specs.Rooms.{IsRoomy}
+use Rattle.h2_laws_kept.specs.StandsFor.{Holds, IsSound, Lacks}
+use Rattle.h2_laws_kept.proofs.Heading.{answered-heads, arrived-heads}
+use Rattle.h2_laws_kept.proofs.Holding.{IsOutside, lacks-as, reads-kept}
 use Rattle.h2_session.specs.Steps.{IsDecoded, IsOn, IsWhole, whole_with}
 use Rattle.h2_session.specs.declared.judging.Whole.{Whole}
 use Rattle.h2_session.proofs.Judged.{seen-initial, seen-streams, seen-unreturned}
@@ -46,7 +46,7 @@ whole-is a (frame.Headers id part last ends) = refl
 whole-is a (frame.Continuation id part ends) = refl
 whole-is a f = refl
 
-ends-whole : (b : Account) (f : Frame) (o : Option OpenBlock) (w : Option Whole) (t : hpack.State) → whole_block b.log f ≡ o
+ends-whole : (b : Account) (f : Frame) (o : Option OpenBlock) (w : Option Whole) (t : hpack.TableState) → whole_block b.log f ≡ o
     → IsDecoded (table_after (blocks b.log)) o w t → IsWhole b f w
 ends-whole b f None None t e d = e
 ends-whole b f (Some o) (Some w) t e d = record {
@@ -57,7 +57,7 @@ ends-whole b f (Some o) (Some w) t e d = record {
 ends-whole b f None (Some w) t e d = absurd d
 ends-whole b f (Some o) None t e d = absurd d
 
-pub is-whole : (b : Account) (f : Frame) (w : Option Whole) (t : hpack.State) → IsDecoded (table_after (blocks b.log)) (whole_block b.log f) w t
+pub is-whole : (b : Account) (f : Frame) (w : Option Whole) (t : hpack.TableState) → IsDecoded (table_after (blocks b.log)) (whole_block b.log f) w t
     → IsWhole b f w
 is-whole b f w t d = ends-whole b f (whole_block b.log f) w t refl d
 
@@ -81,7 +81,7 @@ pub late-breaks : (a : Account) (f : Frame) (o : OpenBlock) (code : ℕ) → fir
     → code_of (block_of (table_after (blocks a.log)) o.bytes) ≡ Some code → violation_of a f ≡ Some code
 late-breaks a f o code n e c = violation-parts a f ∙ rw n (ended-block a f o e ∙ c)
 
-pub passes-all : (a : Account) (f : Frame) (w : Option Whole) (t : hpack.State) → first_row (early_rows a f) ≡ None
+pub passes-all : (a : Account) (f : Frame) (w : Option Whole) (t : hpack.TableState) → first_row (early_rows a f) ≡ None
     → IsDecoded (table_after (blocks a.log)) (whole_block a.log f) w t → violation_of a f ≡ None
 passes-all a f w t n d = violation-parts a f ∙ rw n (by (whole_block a.log f) w refl d)
   where
@@ -162,7 +162,7 @@ module _ (a : Account) (f : Frame) (s : IsSound a) (n : violation a.log ≡ None
   abbrev c : Account
   c = arrived f a
 
-  sound : arrivals.Sound a
+  sound : arrivals.FramesSound a
   sound = record { valid = s.valid; block = s.block }
 
   as-accepted : c ≡ accepted f b

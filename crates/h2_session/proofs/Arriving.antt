@@ -7,7 +7,7 @@ use Rattle.h2_model.specs.declared.answers.Event.TheVariants as event
 use Rattle.h2_model.specs.Blocks.{OpenBlock, table_or}
 use Rattle.h2_model.specs.State.{State}
 use Rattle.h2_model.specs.Moves.{adjusted, decoding, receiving, reported, telling_all, with_end}
-use Rattle.h2_arrivals.specs.Steps.{arriving, opening_for, owing_frames}
+use Rattle.h2_laws_log.specs.Steps.{arriving, opening_for, owing_frames}
 use Rattle.h2_session.specs.Refused.{refused}
 use Rattle.h2_session.specs.Steps.{IsDecoded, IsTold, ending, resetting_all}
 use Rattle.h2_session.specs.declared.judging.Whole.{Whole}
@@ -15,10 +15,10 @@ use Rattle.h2_session.proofs.Apart.{opening-quiet, opening-table, owing-all-asid
 
 -- A block is whole
 
-ends-decoded : (whole : Option OpenBlock) (w : Option Whole) (t : hpack.State) (s : State) → IsDecoded s.table whole w t
+ends-decoded : (whole : Option OpenBlock) (w : Option Whole) (t : hpack.TableState) (s : State) → IsDecoded s.table whole w t
     → ending w (record s { table = t }) ≡ decoding whole s
 unfolding decoding
-ends-decoded None None t s h = ap (λ (x : hpack.State). record s { table = x }) h
+ends-decoded None None t s h = ap (λ (x : hpack.TableState). record s { table = x }) h
 ends-decoded (Some b) (Some w) t s h = λ i. record s {
   table = table_or s.table (sym h.2 i);
   streams = adjusted (h.0 i) (with_end (h.1 i)) s.streams;
@@ -51,7 +51,7 @@ all-told e ids es s q (inr t) = (
 -- All of it
 
 module _ (known headless : ℕ → Bool) (f : Frame) (owed : List Frame) (es : List Event) (whole : Option OpenBlock) (w : Option Whole)
-    (t : hpack.State) (e : Event) (ids : List ℕ) (s : State) (q : s.unreported ≡ []) (d : IsDecoded s.table whole w t) (told : IsTold e ids es) where
+    (t : hpack.TableState) (e : Event) (ids : List ℕ) (s : State) (q : s.unreported ≡ []) (d : IsDecoded s.table whole w t) (told : IsTold e ids es) where
   abbrev opened : State
   opened = opening_for known f s
 

@@ -5,11 +5,11 @@ use Rattle.h2_model.specs.Log.{violation}
 use Rattle.h2_model.specs.Account.{Account}
 use Rattle.h2_model.specs.History.{answered}
 use Rattle.h2_model.specs.State.{State, seen}
-use Rattle.h2_arrivals.proofs.Arrives.{sound-aside}
-use Rattle.h2_arrivals.proofs.Reports.{seen-aside}
-use Rattle.h2_feeds.specs.Feeding.{KeepsPart}
-use Rattle.h2_stands.specs.Kept.{Kept}
-use Rattle.h2_stands.specs.StandsFor.{IsSound, Lacks, Reads, Holds}
+use Rattle.h2_laws_log.proofs.Arrives.{sound-aside}
+use Rattle.h2_laws_log.proofs.Reports.{seen-aside}
+use Rattle.h2_laws_log.specs.Feeding.{KeepsPart}
+use Rattle.h2_laws_kept.specs.Kept.{Kept}
+use Rattle.h2_laws_kept.specs.StandsFor.{IsSound, Lacks, ReadsInput, Holds}
 
 is-sound-aside : (greeted : Bool) (rest : List ℕ) (us : List Event) (a : Account) → IsSound a
     → KeepsPart (record a { greeted = greeted; rest = rest; unreported = us })
@@ -50,7 +50,7 @@ module _ (k : Kept) (a : Account) (h : Holds k a) where
   -- bytes that came in
   pub input-aside : (at : ℕ) (reader : List ℕ) (greeted : Bool) (rest : List ℕ)
       → KeepsPart (record a { greeted = greeted; rest = rest })
-      → (violation a.log ≡ None → Reads (record k { greeted = at; reader = reader }) (record a { greeted = greeted; rest = rest }))
+      → (violation a.log ≡ None → ReadsInput (record k { greeted = at; reader = reader }) (record a { greeted = greeted; rest = rest }))
       → Holds (record k { greeted = at; reader = reader }) (record a { greeted = greeted; rest = rest })
   input-aside at reader greeted rest p r = record {
     sound = is-sound-aside greeted rest a.unreported a h.sound p;

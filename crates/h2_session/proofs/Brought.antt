@@ -14,7 +14,7 @@ use Rattle.h2_model.specs.Duties.{events_by, events_of, faultless_events, head_e
 use Rattle.h2_model.specs.State.{seen, streams}
 use Rattle.h2_model.specs.StreamFaults.{stream_fault}
 use Rattle.h2_model.specs.Streams.{is_live}
-use Rattle.h2_arrivals.proofs.Answered.{reset-above}
+use Rattle.h2_laws_log.proofs.Answered.{reset-above}
 use Rattle.h2_session.specs.Refused.{refused}
 use Rattle.h2_session.specs.Steps.{IsTold, IsWhole, event_by, faultless_event, head_of, if_live, is_live_whole, is_on_live, refused_ids}
 use Rattle.h2_session.specs.declared.judging.Whole.{Whole}

@@ -9,21 +9,21 @@ use Rattle.h2_model.specs.declared.answers.SessionFault.TheVariants.{Code, Memor
 use Rattle.h2_model.specs.Queue.{Waiting, fresh, is_free}
 use Rattle.h2_model.specs.Account.{Account, is_headless}
 use Rattle.h2_model.specs.History as history
-use Rattle.h2_model.specs.History.{frame_in, violated}
+use Rattle.h2_model.specs.History.{violated}
 use Rattle.h2_model.specs.State.{State, seen}
-use Rattle.h2_calls.specs.Becomes.{Becomes}
-use Rattle.h2_calls.specs.Calling.{failing}
-use Rattle.h2_calls.proofs.Fail.{fail-seen, fail-valid, fail-sound}
-use Rattle.h2_rooms.proofs.Calls.{violated-counted}
-use Rattle.h2_streams.specs.Opened.{last_of}
-use Rattle.h2_stands.specs.Arriving.{IfCode}
-use Rattle.h2_stands.specs.Kept.{Kept, IsSame}
-use Rattle.h2_stands.specs.Rooms.{IsRoomy, KeepsCapacity, HasSpare}
-use Rattle.h2_stands.specs.StandsFor.{Holds, Lacks}
-use Rattle.h2_stands.proofs.Heading.{violated-heads}
-use Rattle.h2_stands.proofs.Holding.{IsOutside, Leaves, holding-on, lacks-as, lacks-kept}
-use Rattle.h2_stands.proofs.Roominess.{Comes, roomy-kept, spare-roomy}
-use Rattle.h2_stands.proofs.Sums.{length-filtered}
+use Rattle.h2_laws_log.specs.Becomes.{Becomes}
+use Rattle.h2_laws_log.specs.Calling.{failing}
+use Rattle.h2_laws_log.proofs.Fail.{fail-seen, fail-valid, fail-sound}
+use Rattle.h2_laws_log.proofs.RoomCalls.{violated-counted}
+use Rattle.h2_model.specs.Numbers.{last_of}
+use Rattle.h2_laws_kept.specs.Arriving.{IfCode}
+use Rattle.h2_laws_kept.specs.Kept.{Kept, IsSame}
+use Rattle.h2_laws_kept.specs.Rooms.{IsRoomy, KeepsCapacity, HasSpare}
+use Rattle.h2_laws_kept.specs.StandsFor.{Holds, Lacks}
+use Rattle.h2_laws_kept.proofs.Heading.{violated-heads}
+use Rattle.h2_laws_kept.proofs.Holding.{IsOutside, Leaves, holding-on, lacks-as, lacks-kept}
+use Rattle.h2_laws_kept.proofs.Roominess.{Comes, roomy-kept, spare-roomy}
+use Rattle.h2_laws_kept.proofs.Sums.{length-filtered}
 use Rattle.h2_session.specs.Arrivals.{Fails, KeepsParts, last_of_peer}
 use Rattle.h2_session.specs.Keeping.{KeepsRooms}
 

@@ -18,18 +18,15 @@ use Rattle.h2_model.specs.Streams.{is_live}
 use Rattle.h2_model.specs.Valid.{Valid, updates_in}
 use Rattle.h2_model.specs.Violations.{breaks_block, exceeds_window, has_bad_setting, has_wide_setting, is_empty_update, is_first, is_long, is_on_unopened, is_push, is_settings, violation_of, widens_connection}
 use Rattle.h2_model.specs.Windows.{connection_window, is_too_wide, receiving_window, unreturned, window_from}
-use Rattle.h2_rules.specs.Rows.{early_rows, late_rows}
-use Rattle.h2_rules.proofs.Table.{or_row, violation-parts}
-use Rattle.h2_rules.proofs.Kept.{connection, credited, increased}
+use Rattle.h2_streams.specs.Rows.{early_rows, late_rows}
+use Rattle.h2_streams.proofs.Rows.{or_row, violation-parts}
+use Rattle.h2_streams.proofs.Accounted.{connection, credited, increased}
 use Rattle.h2_session.specs.Steps.{CanCount, CanTake, IsAbsorbed, IsWhole, ending, event_by}
 use Rattle.h2_session.specs.declared.judging.Whole.{Whole}
 use Rattle.h2_session.proofs.Judged.{its-stream, its-unreturned, some}
+use Rattle.h2_laws_log.proofs.Arrives.{row}
 
 -- The rows that don't hold
-
-row : (x : Bool) (c : ℕ) (rest : Option ℕ) → (if x then Some c else rest) ≡ None → (x ≡ false) × (rest ≡ None)
-row true c rest e = absurd cc
-row false c rest e = (refl, e)
 
 pub record Passes (a : Account) (f : Frame) : Type 0 where
   pub widens : widens_connection a f ≡ false

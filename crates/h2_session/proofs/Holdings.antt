@@ -6,9 +6,9 @@ use Rattle.h2_model.specs.Calls.{control}
 use Rattle.h2_model.specs.History.{is_violated}
 use Rattle.h2_model.specs.Log.{violation}
 use Rattle.h2_sender.specs.Sending.{control_of}
-use Rattle.h2_stands.specs.Kept.{Kept}
-use Rattle.h2_stands.specs.StandsFor.{Holds, Reads}
-use Rattle.h2_stands.proofs.Answers.{control-is}
+use Rattle.h2_laws_kept.specs.Kept.{Kept}
+use Rattle.h2_laws_kept.specs.StandsFor.{Holds, ReadsInput}
+use Rattle.h2_laws_kept.proofs.Answers.{control-is}
 use Rattle.h2_session.specs.Bytes.{begun_bytes, input_bytes, kept_bytes}
 use Rattle.h2_session.proofs.Judged.{seen-block}
 use Rattle.h2_session.proofs.Seen.{seen-table}
@@ -18,7 +18,7 @@ none-there None e = refl
 none-there (Some x) e = absurd cc
 
 -- the reader has the frame that was begun, and none of the preface
-rest-is : (k : Kept) (a : Account) → Reads k a → length k.reader ≡ (if a.greeted then length a.rest else 0)
+rest-is : (k : Kept) (a : Account) → ReadsInput k a → length k.reader ≡ (if a.greeted then length a.rest else 0)
 rest-is k a r = by a.greeted refl
   where
     by : (g : Bool) → a.greeted ≡ g → length k.reader ≡ (if g then length a.rest else 0)

@@ -3,9 +3,8 @@ use Rattle.std.proofs.Common.{◌≡◌, ℕ, zero, suc, ◌==◌, Bool, true, f
 use Rattle.std.specs.List.{cons_option}
 use Rattle.h2_frames.specs.declared.frame.Frame.TheVariants as frame
 use Rattle.h2_model.specs.declared.stream.Stream.{Stream}
-use Rattle.h2_model.specs.State.{State}
+use Rattle.h2_model.specs.State.{State, found}
 use Rattle.h2_model.specs.Moves.{adjusted, receiving, resetting, with_increment}
-use Rattle.h2_model.proofs.Lives.{found}
 use Rattle.h2_streams.specs.Changes.{Allows}
 use Rattle.h2_streams.specs.declared.changes.Change.TheVariants.{IncrementCame}
 use Rattle.h2_session.specs.Steps.{CanTake, IsAbsorbed}

@@ -12,12 +12,12 @@ use Rattle.h2_session.specs.Steps.{due_frames}
 use Rattle.ext_msgs.specs.declared.lists.Field.{Field}
 use Rattle.h2_frames.specs.declared.frame.Frame.TheVariants as frame
 use Rattle.h2_model.specs.StreamFaults.{on_live, with_stream, stream_fault, fault_of_block, block_rows}
-use Rattle.h2_model.specs.State.{State, live, seen, streams, stream_of_log}
+use Rattle.h2_model.specs.State.{State, live, seen, streams, stream_of_log, found}
 use Rattle.h2_model.specs.Settings.{initial_window}
 use Rattle.h2_model.specs.Windows.{connection_window, receiving_window, unreturned}
 use Rattle.h2_model.specs.Violations.{is_first, is_settings, breaks_block, is_push, is_on_unopened, has_bad_setting, has_wide_setting, is_empty_update, widens_connection, exceeds_window, is_long}
-use Rattle.h2_model.proofs.Lives.{found, found-live}
-use Rattle.h2_rules.specs.Rows.{early_rows}
+use Rattle.h2_model.proofs.Lives.{found-live}
+use Rattle.h2_streams.specs.Rows.{early_rows}
 
 looked : (ss : List Stream) (a : Account) (id : ℕ) → ss ≡ streams a → found id ss ≡ live id a
 looked ss a id e = ap (found id) e ∙ found-live id a

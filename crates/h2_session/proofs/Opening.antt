@@ -12,16 +12,17 @@ use Rattle.h2_model.specs.Account.{Account, is_headless}
 use Rattle.h2_model.specs.History.{noted, hold, queue_with, owing, opened_by, with_opening}
 use Rattle.h2_model.specs.Violations.{may_open}
 use Rattle.h2_model.specs.State.{seen, streams}
-use Rattle.h2_arrivals.proofs.Arrives.{Accepted}
-use Rattle.h2_streams.specs.Known.{HasOpened}
-use Rattle.h2_streams.specs.Opened.{Opened as Numbers, gaps_before, has, is_within, may_have, with_number}
-use Rattle.h2_streams.specs.declared.numbers.Gap.{Gap}
-use Rattle.h2_stands.specs.Kept.{Kept}
-use Rattle.h2_stands.specs.StandsFor.{AreBelow, Lacks}
-use Rattle.h2_stands.proofs.Holding.{lacks-as}
-use Rattle.h2_stands.proofs.Opens.{among-below, new-above, new-last, top-all}
+use Rattle.h2_laws_log.proofs.Arrives.{Accepted, one-of}
+use Rattle.h2_model.specs.Known.{HasOpened}
+use Rattle.h2_model.specs.Numbers.{Numbers, gaps_before, has, is_within, may_have, with_number}
+use Rattle.h2_model.specs.declared.gap.Gap.{Gap}
+use Rattle.h2_laws_kept.specs.Kept.{Kept}
+use Rattle.h2_laws_kept.specs.StandsFor.{AreBelow, Lacks}
+use Rattle.h2_laws_kept.proofs.Holding.{lacks-as}
+use Rattle.h2_laws_kept.proofs.Opens.{among-below, new-above, new-last}
 use Rattle.h2_session.specs.Arrivals.{CanOpen, numbers_with}
 use Rattle.h2_session.proofs.Judged.{seen-streams}
+use Rattle.h2_laws_log.proofs.Opens.{greatest-all}
 
 -- A number is opened, and those before it are passed over
 
@@ -168,23 +169,18 @@ parts : (c o l : Bool) → (not c && o && l) ≡ true → (c ≡ false) × ((o &
 parts true o l e = absurd (true≢false (sym e))
 parts false o l e = (refl, e)
 
-unknown-may : (o m : Bool) → (not o && not m) ≡ false → o ≡ false → m ≡ true
-unknown-may true m e z = absurd (true≢false z)
-unknown-may false true e z = refl
-unknown-may false false e z = absurd (true≢false e)
-
 pub can-open : (k : Kept) (a : Account) (f : Frame) → k.state ≡ record (seen a) { table = k.state.table } → k.client ≡ a.client → Lacks k a
     → Accepted a f → CanOpen f k
 unfolding streams
 can-open k a (frame.Headers id part last ends) e c h x = λ u.
     let o : is_opened id a.log ≡ false = sym (h.known.known id) ∙ u in
-    let p = parts a.client ((id % 2) == 1) (nat_lt (greatest (opened a.log)) id) (unknown-may (is_opened id a.log) (may_open a id) x.on_opened o) in
+    let p = parts a.client ((id % 2) == 1) (nat_lt (greatest (opened a.log)) id) (one-of (is_opened id a.log) (may_open a id) x.on_opened o) in
     let m : may_have id k.numbers ≡ true = h.known.above id ∙ p.1 in
     let n = may-have-parts k.numbers.next id m in (
       c ∙ p.0,
       m,
       subst (All (λ s. s.id < id)) (sym (seen-streams k.state a e))
-          (among-below id (opened a.log) a (top-all id (opened a.log) (last-below k.numbers.next _ id h.known.last n.1 n.0))),
+          (among-below id (opened a.log) a (greatest-all id (opened a.log) (last-below k.numbers.next _ id h.known.last n.1 n.0))),
     )
 can-open k a f e c h x = tt
 

@@ -8,23 +8,22 @@ use Rattle.hpack_core.specs.Tables as hpack
 use Rattle.h2_model.specs.Calls.{positive_part}
 use Rattle.h2_frames.specs.declared.frame.Frame.TheVariants as frame
 use Rattle.h2_model.specs.declared.stream.Stream.{Stream}
-use Rattle.h2_model.specs.Log.{Entry, Handed}
+use Rattle.h2_model.specs.Log.{LogEntry, Handed}
 use Rattle.h2_model.specs.Queue.{Waiting, entered}
-use Rattle.h2_model.specs.History.{frame_in, is_of, start}
+use Rattle.h2_model.specs.History.{is_of, start}
 use Rattle.h2_model.specs.Blocks.{table_after}
-use Rattle.h2_model.specs.State.{State}
+use Rattle.h2_model.specs.State.{State, found}
 use Rattle.h2_model.specs.Moves.{adjusted, is_dropped, is_dropped_entry, kept_waiting, kept_held, dropped_bytes, resetting, handing, sending, giving, opening, new_stream, with_sent}
-use Rattle.h2_model.proofs.Lives.{found}
-use Rattle.h2_calls.specs.Calling.{all_entered, heading, starting}
-use Rattle.h2_calls.proofs.Lists.{both-left}
-use Rattle.h2_streams.specs.Opened.{has}
+use Rattle.h2_laws_log.specs.Calling.{all_entered, heading, starting}
+use Rattle.h2_laws_log.proofs.Lists.{both-left}
+use Rattle.h2_model.specs.Numbers.{has}
 use Rattle.h2_streams.specs.Changes.{changed, Allows, Counts}
 use Rattle.h2_streams.specs.declared.changes.Change.TheVariants.{BlockSent, DataSent, Reset, UpdateGiven}
 use Rattle.h2_session.specs.Refused.{refused}
 use Rattle.h2_session.specs.Keeping.{CanGive, heading_as}
-use Rattle.h2_stands.specs.Kept.{Kept, IsSame, lacks_head}
-use Rattle.h2_stands.specs.Rooms.{KeepsCapacity}
-use Rattle.h2_stands.proofs.Sums.{length-entered, length-filtered}
+use Rattle.h2_laws_kept.specs.Kept.{Kept, IsSame, lacks_head}
+use Rattle.h2_laws_kept.specs.Rooms.{KeepsCapacity}
+use Rattle.h2_laws_kept.proofs.Sums.{length-filtered}
 
 -- the part of a call that a head's lack decides
 pub lacks-same : (k l : Kept) → IsSame k l → (id : ℕ) → lacks_head id l ≡ lacks_head id k
@@ -32,7 +31,7 @@ lacks-same k l s id = rw (s.client, s.headless, s.numbers) refl
 
 -- A reset
 
-pub over-is : (id : ℕ) (s : State) (window : ℤ) (streams : List Stream) (waiting : List Waiting) (held : List Entry)
+pub over-is : (id : ℕ) (s : State) (window : ℤ) (streams : List Stream) (waiting : List Waiting) (held : List LogEntry)
     → window ≡ s.window +ℤ pos (dropped_bytes id s) → streams ≡ adjusted id (changed Reset) s.streams
     → waiting ≡ kept_waiting id s.waiting → held ≡ kept_held id s.held
     → record s { window = window; streams = streams; waiting = waiting; held = held } ≡ resetting id s
@@ -55,7 +54,7 @@ lacks-client id k e = both-left k.client (nat_le k.headless id) (both-left (k.cl
 nothing-taken : (w : ℤ) → w -ℤ pos 0 ≡ w
 nothing-taken w = omega (arith, ints)
 
-pub reset-held : (id code : ℕ) (s : State) (window : ℤ) (waiting : List Waiting) (held : List Entry) (c : Bool) → c ≡ true
+pub reset-held : (id code : ℕ) (s : State) (window : ℤ) (waiting : List Waiting) (held : List LogEntry) (c : Bool) → c ≡ true
     → window ≡ (resetting id s).window -ℤ pos 0 → waiting ≡ (resetting id s).waiting
     → held ≡ (resetting id s).held ++ Handed (frame.Reset id code) ∷ []
     → record (resetting id s) { window = window; waiting = waiting; held = held } ≡ handing c (frame.Reset id code) s
@@ -64,7 +63,7 @@ reset-held id code s window waiting held c e w q h =
     (λ i. record (resetting id s) { window = (w ∙ nothing-taken (resetting id s).window) i; waiting = q i; held = h i })
     ∙ ap (λ b. handing b (frame.Reset id code) s) (sym e)
 
-pub reset-queued : (id code : ℕ) (s : State) (window : ℤ) (waiting : List Waiting) (held : List Entry) (c : Bool) → c ≡ false
+pub reset-queued : (id code : ℕ) (s : State) (window : ℤ) (waiting : List Waiting) (held : List LogEntry) (c : Bool) → c ≡ false
     → window ≡ (resetting id s).window -ℤ pos 0 → waiting ≡ entered (frame.Reset id code) (resetting id s).waiting
     → held ≡ (resetting id s).held
     → record (resetting id s) { window = window; waiting = waiting; held = held } ≡ handing c (frame.Reset id code) s
@@ -74,7 +73,7 @@ reset-queued id code s window waiting held c e w q h =
     ∙ ap (λ b. handing b (frame.Reset id code) s) (sym e)
 
 pub data-held : (id : ℕ) (bytes : List ℕ) (last : Bool) (n : ℕ) (s : State) (window : ℤ) (streams : List Stream)
-    (waiting : List Waiting) (held : List Entry) (c : Bool) → c ≡ true → n ≡ length bytes → window ≡ s.window -ℤ pos (length bytes)
+    (waiting : List Waiting) (held : List LogEntry) (c : Bool) → c ≡ true → n ≡ length bytes → window ≡ s.window -ℤ pos (length bytes)
     → streams ≡ adjusted id (changed (DataSent last n)) s.streams → waiting ≡ s.waiting
     → held ≡ s.held ++ Handed (frame.Data id bytes last n) ∷ []
     → record s { window = window; streams = streams; waiting = waiting; held = held }
@@ -90,7 +89,7 @@ data-held id bytes last n s window streams waiting held c e m w t q h =
     ∙ ap (λ b. handing b (frame.Data id bytes last (length bytes)) s) (sym e)
 
 pub data-queued : (id : ℕ) (bytes : List ℕ) (last : Bool) (n : ℕ) (s : State) (window : ℤ) (streams : List Stream)
-    (waiting : List Waiting) (held : List Entry) (c : Bool) → c ≡ false → n ≡ length bytes → window ≡ s.window -ℤ pos (length bytes)
+    (waiting : List Waiting) (held : List LogEntry) (c : Bool) → c ≡ false → n ≡ length bytes → window ≡ s.window -ℤ pos (length bytes)
     → streams ≡ adjusted id (changed (DataSent last n)) s.streams
     → waiting ≡ entered (frame.Data id bytes last n) s.waiting → held ≡ s.held
     → record s { window = window; streams = streams; waiting = waiting; held = held }
@@ -108,7 +107,7 @@ data-queued id bytes last n s window streams waiting held c e m w t q h =
 -- A head
 
 pub head-first : (id : ℕ) (block : List ℕ) (last : Bool) (s : State) (window : ℤ) (streams : List Stream)
-    (waiting : List Waiting) (held : List Entry) (c : Bool) → c ≡ true → s.known ≡ s.limit
+    (waiting : List Waiting) (held : List LogEntry) (c : Bool) → c ≡ true → s.known ≡ s.limit
     → window ≡ s.window -ℤ pos 0 → streams ≡ adjusted id (changed (BlockSent last)) s.streams
     → waiting ≡ all_entered (filter (is_of id) s.held) (entered (frame.Headers id block last true) s.waiting)
     → held ≡ filter (λ e. not (is_of id e)) s.held
@@ -126,7 +125,7 @@ head-first id block last s window streams waiting held c e k w t q h =
     ∙ ap (λ b. heading_as b id (frame.Headers id block last true) s) (sym e)
 
 pub head-later : (id : ℕ) (block : List ℕ) (last : Bool) (s : State) (window : ℤ) (streams : List Stream)
-    (waiting : List Waiting) (held : List Entry) (c : Bool) → c ≡ false → s.known ≡ s.limit → window ≡ s.window -ℤ pos 0
+    (waiting : List Waiting) (held : List LogEntry) (c : Bool) → c ≡ false → s.known ≡ s.limit → window ≡ s.window -ℤ pos 0
     → streams ≡ adjusted id (changed (BlockSent last)) s.streams
     → waiting ≡ entered (frame.Headers id block last true) s.waiting → held ≡ s.held
     → record s { window = window; streams = streams; waiting = waiting; held = held }
@@ -163,10 +162,6 @@ counts zero n s z h = absurd (z refl)
 counts (suc id) n s z h = h
 
 -- what is held enters the queue
-
-pub length-all-entered : (held : List Entry) (queue : List Waiting) → length (all_entered held queue) ≡ length held + length queue
-length-all-entered [] queue = omega arith
-length-all-entered (e ∷ held) queue = omega (arith, length-all-entered held (entered (frame_in e) queue), length-entered (frame_in e) queue)
 
 -- Credit
 
@@ -212,14 +207,14 @@ within-window n (negsuc k) s h l b = absurd (omega (arith, ints, l))
 
 -- The encoder's table stays empty
 
-pub resized-empty : (limit : ℕ) (t : hpack.State) → t.entries ≡ [] → (hpack.resized limit t).entries ≡ t.entries
+pub resized-empty : (limit : ℕ) (t : hpack.TableState) → t.entries ≡ [] → (hpack.resized limit t).entries ≡ t.entries
 unfolding hpack.cut
 resized-empty limit t e = rw e refl
 
 -- A session begins
 
-pub new-state : (client : Bool) (table : hpack.State) (known limit : ℕ) (window : ℤ) (streams : List Stream) (waiting : List Waiting)
-    (held : List Entry) (unreported : List ℕ) → table.entries ≡ [] → table.limit ≡ 4096 → known ≡ 4096 → limit ≡ 4096
+pub new-state : (client : Bool) (table : hpack.TableState) (known limit : ℕ) (window : ℤ) (streams : List Stream) (waiting : List Waiting)
+    (held : List LogEntry) (unreported : List ℕ) → table.entries ≡ [] → table.limit ≡ 4096 → known ≡ 4096 → limit ≡ 4096
     → window ≡ pos 65535 → streams ≡ [] → waiting ≡ (start client).waiting → held ≡ [] → unreported ≡ []
     → (let s : State = record {
       first = true;

@@ -15,17 +15,17 @@ use Rattle.h2_model.specs.Log.{is_empty}
 use Rattle.h2_model.specs.Account.{Account}
 use Rattle.h2_model.specs.History.{Feed, preface, arrived, called, violated, is_violated}
 use Rattle.h2_model.specs.Calls.{event_or_nothing, used_bytes}
-use Rattle.h2_feeds.specs.Feeding.{EndsAt, EndsAtFault, IsRead, KeepsPart, ReadsFrames, ReadsPreface}
-use Rattle.h2_feeds.proofs.Fronts.{nothing-begun}
-use Rattle.h2_feeds.proofs.Keeps.{keeps-arrived}
-use Rattle.h2_feeds.proofs.Parts.{part-bytes, part-called}
-use Rattle.h2_feeds.proofs.Steps.{reads-frame, reads-preface, ends-preface, ends-stopped, ends-all, ends-more, ends-at-other, ends-fault, answers, refuses, leaves, fault-refuses}
-use Rattle.h2_stands.specs.Kept.{Kept}
-use Rattle.h2_stands.specs.Arriving.{Brings, Breaks}
-use Rattle.h2_stands.specs.StandsFor.{Reads, Holds}
-use Rattle.h2_session.specs.Feeding.{Runs, Reaches, Greets, Told, Refuses}
+use Rattle.h2_laws_log.specs.Feeding.{EndsAt, EndsAtFault, HasRead, KeepsPart, ReadsFrames, ReadsPreface}
+use Rattle.h2_laws_log.proofs.Keeps.{keeps-arrived}
+use Rattle.h2_laws_log.proofs.Parts.{part-bytes, part-called}
+use Rattle.h2_laws_log.proofs.Steps.{reads-frame, reads-preface, ends-preface, ends-stopped, ends-all, ends-more, ends-at-other, ends-fault, answers, refuses, leaves, fault-refuses}
+use Rattle.h2_laws_kept.specs.Kept.{Kept}
+use Rattle.h2_laws_kept.specs.Arriving.{Brings, Breaks}
+use Rattle.h2_laws_kept.specs.StandsFor.{ReadsInput, Holds}
+use Rattle.h2_session.specs.Feeding.{Runs, Reaches, Greets, Told, RefusesBytes}
 use Rattle.h2_session.proofs.Aside.{input-aside, answered-none}
 use Rattle.h2_session.proofs.Sounds.{breaks-quietly}
+use Rattle.h2_frames.proofs.Cuts.{nothing}
 
 below : (n : ℕ) → n < 24 → (n == 24) ≡ false
 below n l = ne_eqb n 24 (λ e. absurd (omega (arith, l, e)))
@@ -46,13 +46,13 @@ handed-on P (Ok x) e h p = tt
 handed-on P (Err f) e h p = subst P (sym h) p
 
 module _ (k : Kept) (a b : Account) (bytes : List ℕ) (n : ℕ) (h : Runs k a b bytes n) where
-  reads : Reads k b
+  reads : ReadsInput k b
   reads = h.holds.reads h.sound
 
   unviolated : is_violated b ≡ false
   unviolated = ap is_some h.sound
 
-  part-read : (m : ℕ) (d : Account) → IsRead a bytes m d → KeepsPart d
+  part-read : (m : ℕ) (d : Account) → HasRead a bytes m d → KeepsPart d
   part-read m d r = subst KeepsPart r.after (part-bytes (take m bytes) a h.part)
 
   leaves-it : (m : ℕ) (d : Account) → EndsAt a bytes m d → d.unreported ≡ [] → called (Feed (used_bytes bytes a)) a ≡ d
@@ -76,7 +76,7 @@ module _ (k : Kept) (a b : Account) (bytes : List ℕ) (n : ℕ) (h : Runs k a b
       part : k.greeted + 1 < 24 → Reaches (record k { greeted = k.greeted + 1 }) a bytes (n + 1)
       part s =
           let d : Account = record b { rest = take (k.greeted + 1) preface } in
-          let r : IsRead a bytes (n + 1) d = reads-preface a bytes n b h.read k.greeted (greets l) m e s in
+          let r : HasRead a bytes (n + 1) d = reads-preface a bytes n b h.read k.greeted (greets l) m e s in
           record {
             reached = d;
             runs = record {
@@ -97,7 +97,7 @@ module _ (k : Kept) (a b : Account) (bytes : List ℕ) (n : ℕ) (h : Runs k a b
       whole : k.greeted + 1 ≡ 24 → Reaches (record k { greeted = k.greeted + 1 }) a bytes (n + 1)
       whole s =
           let d : Account = record b { greeted = true; rest = [] } in
-          let r : IsRead a bytes (n + 1) d = ends-preface a bytes n b h.read k.greeted (greets l) m e s in
+          let r : HasRead a bytes (n + 1) d = ends-preface a bytes n b h.read k.greeted (greets l) m e s in
           record {
             reached = d;
             runs = record {
@@ -120,7 +120,7 @@ module _ (k : Kept) (a b : Account) (bytes : List ℕ) (n : ℕ) (h : Runs k a b
       by false c = part (omega (arith, l, eqb-false (k.greeted + 1) 24 c))
 
   pub other-byte : k.greeted < 24 → n < length bytes → slice_index bytes n ≢ slice_index preface k.greeted
-      → (l : Kept) → Holds l (violated 1 b) → Refuses l a bytes 1
+      → (l : Kept) → Holds l (violated 1 b) → RefusesBytes l a bytes 1
   other-byte s m e l x =
       let t : EndsAt a bytes (n + 1) (violated 1 b) = ends-at-other a bytes n b h.read k.greeted (greets s) m e in
       record {
@@ -158,7 +158,7 @@ module _ (k : Kept) (a : Account) (bytes : List ℕ) (n : ℕ) (met : Greets k a
       by (inl t) = t
       by (inr e) = absurd (omega (arith, more, e))
 
-  kept-reads : Reads k b
+  kept-reads : ReadsInput k b
   kept-reads = h.holds.reads h.sound
 
   frames : ReadsFrames b
@@ -167,7 +167,7 @@ module _ (k : Kept) (a : Account) (bytes : List ℕ) (n : ℕ) (met : Greets k a
   not-before : {X : Type 0} → b.greeted ≡ false → X
   not-before f = absurd (true≢false (sym g ∙ f))
 
-  reader-reads : (reader rest : List ℕ) → reader ≡ rest → Reads (record k { reader = reader }) (record b { rest = rest })
+  reader-reads : (reader rest : List ℕ) → reader ≡ rest → ReadsInput (record k { reader = reader }) (record b { rest = rest })
   reader-reads reader rest e = record {
     greeted = kept-reads.greeted;
     within = kept-reads.within;
@@ -193,7 +193,7 @@ module _ (k : Kept) (a : Account) (bytes : List ℕ) (n : ℕ) (met : Greets k a
   reader-same reader e = subst (λ x. Holds (record k { reader = x }) b) (sym e) h.holds
 
   pub frame-faulty : (code : ℕ) → first (k.reader ++ drop n bytes) ≡ Faulty code → (l : Kept) → Holds l (violated code b)
-      → Refuses l a bytes code
+      → RefusesBytes l a bytes code
   frame-faulty code u l x =
       let t : EndsAtFault a bytes code b =
       ends-fault a bytes n b h.read code frames (h.holds.sound.part.frame g) (ap (λ x. first (x ++ drop n bytes)) (sym (kept-reads.frame g)) ∙ u) in
@@ -213,11 +213,11 @@ module _ (k : Kept) (a : Account) (bytes : List ℕ) (n : ℕ) (met : Greets k a
   frame-held reader e = input-aside k b h.holds k.greeted reader b.greeted [] part (λ v. reader-reads reader [] e)
     where
       part : KeepsPart c
-      part = record { frame = λ t. nothing-begun; preface = λ f. not-before f; short = λ f. not-before f }
+      part = record { frame = λ t. nothing; preface = λ f. not-before f; short = λ f. not-before f }
 
   module _ (f : Frame) (m : ℕ) (w : first (k.reader ++ drop n bytes) ≡ Whole f (length k.reader + m)) (p : 0 < m)
       (q : m ≤ length (drop n bytes)) where
-    comes : IsRead a bytes (n + m) (arrived f c)
+    comes : HasRead a bytes (n + m) (arrived f c)
     comes = reads-frame a bytes n b h.read m f frames
         (subst (λ x. first (x ++ drop n bytes) ≡ Whole f (length x + m)) (kept-reads.frame g) w) p q
 
@@ -244,7 +244,7 @@ module _ (k : Kept) (a : Account) (bytes : List ℕ) (n : ℕ) (met : Greets k a
           holds = subst (Holds l) (sym (leaves a bytes (n + m) (arrived f c) t)) x.holds;
         }
 
-    pub frame-breaks : (l : Kept) (code : ℕ) → Breaks l f c code → Refuses l a bytes code
+    pub frame-breaks : (l : Kept) (code : ℕ) → Breaks l f c code → RefusesBytes l a bytes code
     frame-breaks l code x =
         let t : EndsAt a bytes (n + m) (arrived f c) = ends-stopped a bytes (n + m) (arrived f c) comes
         (violation-stops (arrived f c).unreported (is_violated (arrived f c)) (ap is_some x.told)) in

@@ -7,11 +7,11 @@ use Rattle.h2_model.specs.declared.answers.Event.TheVariants as event
 use Rattle.h2_model.specs.Log.{Owed, stream_of}
 use Rattle.h2_model.specs.State.{State}
 use Rattle.h2_model.specs.Moves.{charged, is_dropped, is_dropped_entry, owing_frame, queueing, receiving, reported, resetting}
-use Rattle.h2_arrivals.specs.Steps.{owing_frames}
-use Rattle.h2_stands.specs.Kept.{Kept}
-use Rattle.h2_stands.specs.Rooms.{HasSpare, IsRoomy, KeepsCapacity}
-use Rattle.h2_stands.proofs.Roominess.{Comes, spare-roomy}
-use Rattle.h2_stands.proofs.Sums.{credits-twice, length-entered, length-filtered, length-moved}
+use Rattle.h2_laws_log.specs.Steps.{owing_frames}
+use Rattle.h2_laws_kept.specs.Kept.{Kept}
+use Rattle.h2_laws_kept.specs.Rooms.{HasSpare, IsRoomy, KeepsCapacity}
+use Rattle.h2_laws_kept.proofs.Roominess.{Comes, spare-roomy}
+use Rattle.h2_laws_kept.proofs.Sums.{credits-twice, length-entered, length-filtered, length-moved}
 use Rattle.h2_session.specs.Feeding.{KeepsRole}
 use Rattle.h2_session.specs.Steps.{ending, resetting_all}
 use Rattle.h2_session.specs.declared.judging.Whole.{Whole}

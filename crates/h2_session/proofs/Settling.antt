@@ -6,9 +6,9 @@ use Rattle.h2_model.specs.Account.{Account}
 use Rattle.h2_model.specs.Duties.{owed_for}
 use Rattle.h2_model.specs.Moves.{receiving, reported}
 use Rattle.h2_model.specs.StreamFaults.{stream_fault}
-use Rattle.h2_arrivals.specs.Steps.{owing_frames}
-use Rattle.h2_streams.specs.Opened.{has}
-use Rattle.h2_stands.specs.Kept.{IsSame, Kept, lacks_head}
+use Rattle.h2_laws_log.specs.Steps.{owing_frames}
+use Rattle.h2_model.specs.Numbers.{has}
+use Rattle.h2_laws_kept.specs.Kept.{IsSame, Kept, lacks_head}
 use Rattle.h2_session.specs.Accepting.{IsReady, Settles}
 use Rattle.h2_session.specs.Refused.{refused}
 use Rattle.h2_session.specs.Steps.{CanCount, CanTake, IsAbsorbed, ending, event_by, is_on_live, refused_ids, resetting_all}

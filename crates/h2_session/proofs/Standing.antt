@@ -14,22 +14,22 @@ use Rattle.h2_model.specs.Queue.{flow}
 use Rattle.h2_model.specs.Windows.{connection_window, stream_window}
 use Rattle.h2_model.specs.State.{State}
 use Rattle.h2_model.specs.Moves.{handing, opening, sending}
-use Rattle.h2_calls.specs.Calling.{taking, heading}
+use Rattle.h2_laws_log.specs.Calling.{taking, heading}
 use Rattle.h2_session.specs.Keeping.{KeepsRooms, heading_as, leaves_a_stream}
 use Rattle.h2_session.proofs.Agreeing.{live-same, open-same, head-same, kept-same}
 use Rattle.h2_session.proofs.Seen.{seen-known, seen-limit}
-use Rattle.h2_stands.specs.Kept.{Kept, IsSame, IsBeside, lacks_head}
-use Rattle.h2_stands.specs.Rooms.{HasSpare, KeepsCapacity}
-use Rattle.h2_stands.specs.StandsFor.{StandsFor, Stands}
-use Rattle.h2_stands.proofs.Answers.{flow-is}
-use Rattle.h2_stands.proofs.Finishes.{finish-held}
-use Rattle.h2_stands.proofs.Heads.{head-held, head-idle}
-use Rattle.h2_stands.proofs.Histories.{one-more, one-idle, none-more, role-is}
-use Rattle.h2_stands.proofs.Holding.{violation-kept}
-use Rattle.h2_stands.proofs.Opens.{can-open-is, open-held}
-use Rattle.h2_stands.proofs.Resets.{reset-held}
-use Rattle.h2_stands.proofs.Sends.{send-held, send-idle}
-use Rattle.h2_stands.proofs.Takes.{take-held}
+use Rattle.h2_laws_kept.specs.Kept.{Kept, IsSame, IsBeside, lacks_head}
+use Rattle.h2_laws_kept.specs.Rooms.{HasSpare, KeepsCapacity}
+use Rattle.h2_laws_kept.specs.StandsFor.{StandsFor, Stands}
+use Rattle.h2_laws_kept.proofs.Answers.{flow-is}
+use Rattle.h2_laws_kept.proofs.Finishes.{finish-held}
+use Rattle.h2_laws_kept.proofs.Heads.{head-held, head-idle}
+use Rattle.h2_laws_kept.proofs.Histories.{one-more, one-idle, none-more, role-is}
+use Rattle.h2_laws_kept.proofs.Holding.{violation-kept}
+use Rattle.h2_laws_kept.proofs.Opens.{can-open-is, open-held}
+use Rattle.h2_laws_kept.proofs.Resets.{reset-held}
+use Rattle.h2_laws_kept.proofs.Sends.{send-held, send-idle}
+use Rattle.h2_laws_kept.proofs.Takes.{take-held}
 
 -- What a requirement says of one history it says of each that the session stands for
 

@@ -11,13 +11,13 @@ use Rattle.h2_model.specs.State.{State, live, stream_of_log}
 use Rattle.h2_model.specs.Moves.{giving, giving_all}
 use Rattle.h2_model.specs.Valid.{Valid, update_of, updates_in}
 use Rattle.h2_model.specs.Windows.{increment_owed, increment_given, data_received, receiving_window}
-use Rattle.h2_calls.specs.Calling.{taking}
-use Rattle.h2_calls.proofs.Lists.{same-number}
+use Rattle.h2_laws_log.specs.Calling.{taking}
+use Rattle.h2_laws_log.proofs.Lists.{same-number}
 use Rattle.h2_session.specs.Keeping.{CanGive, CanGiveWhole, update_in}
 use Rattle.h2_session.proofs.Agreeing.{found-is}
 use Rattle.h2_session.proofs.Seen.{seen-receive, seen-waiting}
-use Rattle.h2_stands.specs.Kept.{Kept}
-use Rattle.h2_stands.specs.StandsFor.{Holds}
+use Rattle.h2_laws_kept.specs.Kept.{Kept}
+use Rattle.h2_laws_kept.specs.StandsFor.{Holds}
 
 first-update : (m id n : ℕ) (queue : List Waiting) → whole_within m queue ≡ frame.Window id n ∷ [] → n ≤ updates_in id queue
 first-update m id n [] e = absurd cc

@@ -10,9 +10,9 @@ use Rattle.h2_model.specs.Moves.{receiving, reported}
 use Rattle.h2_model.specs.StreamFaults.{stream_fault}
 use Rattle.h2_model.specs.Violations.{violation_of, widens_connection}
 use Rattle.h2_model.specs.Windows.{connection_window}
-use Rattle.h2_arrivals.specs.Steps.{owing_frames}
-use Rattle.h2_stands.specs.Kept.{Kept, lacks_head}
-use Rattle.h2_stands.specs.StandsFor.{Holds}
+use Rattle.h2_laws_log.specs.Steps.{owing_frames}
+use Rattle.h2_laws_kept.specs.Kept.{Kept, lacks_head}
+use Rattle.h2_laws_kept.specs.StandsFor.{Holds}
 use Rattle.h2_session.specs.Arrivals.{KeepsParts}
 use Rattle.h2_session.specs.Refused.{refused}
 use Rattle.h2_session.specs.Steps.{CanCount, IsDecoded, IsOn, IsWhole, ending, event_by, is_on_live, refused_ids, resetting_all}

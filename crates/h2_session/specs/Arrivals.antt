@@ -5,11 +5,11 @@ use Rattle.h2_frames.specs.declared.frame.Frame.{Frame}
 use Rattle.h2_frames.specs.declared.frame.Frame.TheVariants as frame
 use Rattle.h2_model.specs.declared.stream.Stream.{Stream}
 use Rattle.h2_model.specs.Blocks.{OpenBlock}
-use Rattle.h2_rules.proofs.Table.{code_of}
-use Rattle.h2_calls.specs.Calling.{failing}
-use Rattle.h2_streams.specs.Opened.{Opened, has, may_have, last_of, with_number}
-use Rattle.h2_stands.specs.Kept.{Kept, IsSame}
-use Rattle.h2_stands.specs.Rooms.{IsRoomy}
+use Rattle.h2_streams.specs.Rows.{code_of}
+use Rattle.h2_laws_log.specs.Calling.{failing}
+use Rattle.h2_model.specs.Numbers.{Numbers, has, may_have, last_of, with_number}
+use Rattle.h2_laws_kept.specs.Kept.{Kept, IsSame}
+use Rattle.h2_laws_kept.specs.Rooms.{IsRoomy}
 
 -- a number above those of all live streams
 abbrev pub IsAbove : ℕ → List Stream → Type 0
@@ -21,7 +21,7 @@ CanOpen (frame.Headers id part last ends) k = has id k.numbers ≡ false →
     (k.client ≡ false) × (may_have id k.numbers ≡ true) × IsAbove id k.state.streams
 CanOpen f k = Unit {0}
 
-abbrev pub numbers_with : Frame → Opened → Opened
+abbrev pub numbers_with : Frame → Numbers → Numbers
 numbers_with (frame.Headers id part last ends) n = if has id n then n else with_number id n
 numbers_with f n = n
 

@@ -6,9 +6,9 @@ use Rattle.h2_model.specs.Log.{violation}
 use Rattle.h2_model.specs.Account.{Account}
 use Rattle.h2_model.specs.History.{Feed, called}
 use Rattle.h2_model.specs.Calls.{IsFault, IsFed, used_bytes}
-use Rattle.h2_feeds.specs.Feeding.{IsRead, KeepsPart}
-use Rattle.h2_stands.specs.Kept.{Kept}
-use Rattle.h2_stands.specs.StandsFor.{Holds}
+use Rattle.h2_laws_log.specs.Feeding.{HasRead, KeepsPart}
+use Rattle.h2_laws_kept.specs.Kept.{Kept}
+use Rattle.h2_laws_kept.specs.StandsFor.{Holds}
 
 -- the role and how many streams a client keeps are chosen for good
 pub record KeepsRole (k l : Kept) : Type 0 where
@@ -18,7 +18,7 @@ pub record KeepsRole (k l : Kept) : Type 0 where
 -- n of the bytes led from the account a to b, which the session holds, and goes on from
 pub record Runs (k : Kept) (a b : Account) (bytes : List ℕ) (n : ℕ) : Type 0 where
   pub part : KeepsPart a
-  pub read : IsRead a bytes n b
+  pub read : HasRead a bytes n b
   pub holds : Holds k b
   pub quiet : b.unreported ≡ []
   pub sound : violation b.log ≡ None
@@ -38,6 +38,6 @@ pub record Told (k : Kept) (a : Account) (bytes : List ℕ) (f : Fed) : Type 0 w
   pub fed : IsFed a bytes f
   pub holds : Holds k (called (Feed (used_bytes bytes a)) a)
 
-pub record Refuses (k : Kept) (a : Account) (bytes : List ℕ) (code : ℕ) : Type 0 where
+pub record RefusesBytes (k : Kept) (a : Account) (bytes : List ℕ) (code : ℕ) : Type 0 where
   pub fault : IsFault a bytes (Code code)
   pub holds : Holds k (called (Feed (used_bytes bytes a)) a)

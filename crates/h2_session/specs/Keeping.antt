@@ -4,12 +4,11 @@ use Rattle.h2_frames.specs.declared.frame.Frame.{Frame}
 use Rattle.h2_frames.specs.declared.frame.Frame.TheVariants as frame
 use Rattle.h2_model.specs.declared.stream.Stream.{Stream}
 use Rattle.h2_model.specs.Moves.{sending, queueing}
-use Rattle.h2_model.specs.State.{State}
-use Rattle.h2_model.proofs.Lives.{found}
-use Rattle.h2_calls.specs.Calling.{heading}
+use Rattle.h2_model.specs.State.{State, found}
+use Rattle.h2_laws_log.specs.Calling.{heading}
 use Rattle.h2_streams.specs.Changes.{Counts}
 use Rattle.h2_streams.specs.declared.changes.Change.TheVariants.{UpdateGiven}
-use Rattle.h2_stands.specs.Kept.{Kept}
+use Rattle.h2_laws_kept.specs.Kept.{Kept}
 
 -- no room was lost for frames
 pub record KeepsRoom (k l : Kept) : Type 0 where

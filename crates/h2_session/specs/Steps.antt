@@ -13,12 +13,11 @@ use Rattle.h2_model.specs.Account.{Account, is_headless}
 use Rattle.h2_model.specs.Settings.{initial_window}
 use Rattle.h2_model.specs.Windows.{unreturned}
 use Rattle.h2_model.specs.Duties.{updates}
-use Rattle.h2_model.specs.State.{State, streams}
+use Rattle.h2_model.specs.State.{State, streams, found}
 use Rattle.h2_model.specs.Moves.{adjusted, receiving, resetting, with_end}
-use Rattle.h2_model.proofs.Lives.{found}
 use Rattle.h2_streams.specs.Changes.{Allows}
 use Rattle.h2_streams.specs.declared.changes.Change.TheVariants.{IncrementCame}
-use Rattle.h2_stands.specs.Kept.{Kept, lacks_head}
+use Rattle.h2_laws_kept.specs.Kept.{Kept, lacks_head}
 use Rattle.h2_session.specs.Refused.{refused}
 use Rattle.h2_session.specs.declared.judging.Whole.{Whole}
 
@@ -72,7 +71,7 @@ whole_with block (frame.Continuation id part ends) = if ends then more_of part b
 whole_with block f = None
 
 -- what it is decoded to, and the table behind it
-abbrev pub IsDecoded : hpack.State → Option OpenBlock → Option Whole → hpack.State → Type 0
+abbrev pub IsDecoded : hpack.TableState → Option OpenBlock → Option Whole → hpack.TableState → Type 0
 IsDecoded t None None u = u ≡ t
 IsDecoded t (Some b) (Some w) u = (w.stream ≡ b.stream) × (w.last ≡ b.last) × (block_of t b.bytes ≡ Ok (w.fields, u))
 IsDecoded t b w u = ⊥

@@ -1,8 +1,8 @@
 //! What a frame that came in does, step by step as the definitions have it.
 
 ghost use Rattle.std.specs.Prelude.{◌≡◌, ◌<◌, ◌^◌, ◌&&◌, [], None, IfOk, IfErr, OnOk, false, true, length, map, nat_le, nat_lt, not};
-ghost use Rattle.h2_arrivals.specs.Steps.{opening_by, opening_for};
-ghost use Rattle.h2_calls.specs.Calling.{failing};
+ghost use Rattle.h2_laws_log.specs.Steps.{opening_by, opening_for};
+ghost use Rattle.h2_laws_log.specs.Calling.{failing};
 ghost use Rattle.h2_frames.specs.declared.frame.Frame.TheVariants as frame;
 ghost use Rattle.h2_model.specs.Account.{Account};
 ghost use Rattle.h2_model.specs.Codes.{refused_stream};
@@ -15,11 +15,11 @@ ghost use Rattle.h2_session.specs.Feeding.{KeepsRole};
 ghost use Rattle.h2_session.specs.Keeping.{KeepsRoom};
 ghost use Rattle.h2_session.specs.Refused.{refused};
 ghost use Rattle.h2_session.specs.Steps.{ending, resetting_all};
-ghost use Rattle.h2_stands.specs.Arriving.{Breaks, Brings, IfCode};
-ghost use Rattle.h2_stands.specs.Kept.{IsBeside, IsSame};
-ghost use Rattle.h2_stands.specs.Rooms.{HasSpare, KeepsCapacity};
-ghost use Rattle.h2_stands.specs.StandsFor.{Holds};
-ghost use Rattle.h2_streams.specs.Opened.{has, may_have, with_number};
+ghost use Rattle.h2_laws_kept.specs.Arriving.{Breaks, Brings, IfCode};
+ghost use Rattle.h2_laws_kept.specs.Kept.{IsBeside, IsSame};
+ghost use Rattle.h2_laws_kept.specs.Rooms.{HasSpare, KeepsCapacity};
+ghost use Rattle.h2_laws_kept.specs.StandsFor.{Holds};
+ghost use Rattle.h2_model.specs.Numbers.{has, may_have, with_number};
 
 use crate::judging::{Whole, event_of, is_on_live};
 use crate::session::Session;
@@ -27,8 +27,7 @@ use ext_msgs::FieldList;
 use h2_frames::Frame;
 use h2_frames::codes::REFUSED_STREAM;
 use h2_model::{Event, SessionFault};
-use h2_rules::is_interim;
-use h2_streams::Change;
+use h2_streams::{Change, is_interim};
 use std::alloc::AllocError;
 use std::collections::VecDeque;
 

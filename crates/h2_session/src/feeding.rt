@@ -5,9 +5,9 @@ ghost use Rattle.h2_model.specs.Account.{Account};
 ghost use Rattle.h2_model.specs.Calls.{IsFault, IsFed, Role, now, used_bytes};
 ghost use Rattle.h2_model.specs.History.{Call, Feed};
 ghost use Rattle.h2_model.specs.declared.answers.Event.TheVariants as event;
-ghost use Rattle.h2_session.specs.Feeding.{Greets, KeepsRole, Refuses, Runs, Told};
-ghost use Rattle.h2_stands.specs.Arriving.{IfCode};
-ghost use Rattle.h2_stands.specs.StandsFor.{Holds, StandsFor};
+ghost use Rattle.h2_session.specs.Feeding.{Greets, KeepsRole, RefusesBytes, Runs, Told};
+ghost use Rattle.h2_laws_kept.specs.Arriving.{IfCode};
+ghost use Rattle.h2_laws_kept.specs.StandsFor.{Holds, StandsFor};
 
 use crate::session::Session;
 use h2_frames::codes::{PROTOCOL_ERROR, REFUSED_STREAM};
@@ -51,7 +51,7 @@ impl Session {
         requires from { from ≤ length bytes.now }
         ensures within { IfOk result (λ f. f.used ≤ length bytes.now) }
         ensures told { (a : Account) → Greets self.old a bytes.now from → IfOk result (Told self.new a bytes.now) }
-        ensures refuses { (a : Account) → Greets self.old a bytes.now from → IfErr result (IfCode (Refuses self.new a bytes.now)) }
+        ensures refuses { (a : Account) → Greets self.old a bytes.now from → IfErr result (IfCode (RefusesBytes self.new a bytes.now)) }
         ensures role { KeepsRole self.old self.new }
     {
         let mut used = from;
@@ -88,7 +88,7 @@ impl Session {
     fn greet(&mut self, bytes: &[u8]) -> Result<usize, SessionFault>
         ensures within { IfOk result (λ n. n ≤ length bytes.now) }
         ensures greets { (a : Account) → Runs self.old a a bytes.now 0 → IfOk result (λ n. Greets self.new a bytes.now n) }
-        ensures refuses { (a : Account) → Runs self.old a a bytes.now 0 → IfErr result (IfCode (Refuses self.new a bytes.now)) }
+        ensures refuses { (a : Account) → Runs self.old a a bytes.now 0 → IfErr result (IfCode (RefusesBytes self.new a bytes.now)) }
         ensures role { KeepsRole self.old self.new }
     {
         let mut used = 0;

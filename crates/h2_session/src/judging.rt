@@ -3,37 +3,35 @@
 ghost use Rattle.std.specs.Prelude.{◌≡◌, ◌≤◌, ◌<◌, ◌+◌, ◌^◌, ◌++◌, [], All, Err, IfErr, IfOk, None, Ok, OnOk, Some, filter, if◌then◌else◌, length, map, nat_lt, nat_le, not, true, ◌&&◌, ◌||◌, ◌∷◌, ℕ};
 ghost use Rattle.h2_frames.specs.declared.frame.Frame.TheVariants as frame;
 ghost use Rattle.hpack_core.specs.Reading.{block_of};
-ghost use Rattle.h2_model.proofs.Lives.{found};
 ghost use Rattle.h2_model.specs.Account.{Account};
 ghost use Rattle.h2_model.specs.Blocks.{OpenBlock, more_of};
 ghost use Rattle.h2_model.specs.Codes.{first_row};
 ghost use Rattle.h2_model.specs.Duties.{is_open_from_peer, owed_for, reset_for, update, updates};
 ghost use Rattle.h2_model.specs.Log.{violation};
-ghost use Rattle.h2_model.specs.State.{streams as live_streams};
+ghost use Rattle.h2_model.specs.State.{streams as live_streams, found};
 ghost use Rattle.h2_model.specs.Streams.{is_live};
 ghost use Rattle.h2_model.specs.Settings.{initial_window};
 ghost use Rattle.h2_model.specs.StreamFaults.{block_rows, data_rows, on_live, stream_fault, update_rows, with_stream};
 ghost use Rattle.h2_model.specs.Violations.{is_settings};
 ghost use Rattle.h2_model.specs.declared.stream.Stream.{Stream};
-ghost use Rattle.h2_rules.proofs.Table.{code_of};
-ghost use Rattle.h2_rules.specs.Rows.{early_rows};
+ghost use Rattle.h2_streams.specs.Rows.{code_of};
+ghost use Rattle.h2_streams.specs.Rows.{early_rows};
 ghost use Rattle.h2_session.specs.Arrivals.{Fails, IsFaulty, IsUndecoded, KeepsParts};
 ghost use Rattle.h2_session.specs.Feeding.{KeepsRole};
 ghost use Rattle.h2_session.specs.Steps.{CanCount, IsDecoded, due_frames, IsOn, IsOwed, IsWhole, event_by, is_on_live, refused_ids, update_frames, whole_with};
-ghost use Rattle.h2_stands.specs.Arriving.{IfCode};
-ghost use Rattle.h2_stands.specs.StandsFor.{Holds};
+ghost use Rattle.h2_laws_kept.specs.Arriving.{IfCode};
+ghost use Rattle.h2_laws_kept.specs.StandsFor.{Holds};
 
 use crate::session::Session;
 use ext_msgs::FieldList;
 use h2_frames::Frame;
 use h2_frames::codes::{COMPRESSION_ERROR, ENHANCE_YOUR_CALM, FLOW_CONTROL_ERROR, PROTOCOL_ERROR};
 use h2_model::{Event, SessionFault, Stream};
-use h2_rules::{
-    LONGEST, block_fault, breaks_block, data_fault, exceeds_window, has_bad_setting,
+use h2_streams::{
+    LONGEST, StreamTable, block_fault, breaks_block, data_fault, exceeds_window, has_bad_setting,
     has_long_block, has_wide_setting, is_empty_update, is_on_unopened, is_push, is_settings,
     update_fault, widens_connection,
 };
-use h2_streams::StreamTable;
 use hpack_core::HpackFault;
 use std::alloc::AllocError;
 use std::collections::VecDeque;

@@ -4,10 +4,10 @@ ghost use Rattle.std.specs.Prelude.{◌≡◌, ◌≤◌, ◌<◌, ◌+◌, ◌-
 ghost use Rattle.h2_frames.specs.declared.frame.Frame.TheVariants as frame;
 ghost use Rattle.h2_model.specs.Log.{stream_of};
 ghost use Rattle.h2_model.specs.Moves.{adjusted, charged, owing_frame, with_update};
-ghost use Rattle.h2_arrivals.specs.Steps.{owing_frames};
+ghost use Rattle.h2_laws_log.specs.Steps.{owing_frames};
 ghost use Rattle.h2_session.specs.Steps.{IsOwed};
-ghost use Rattle.h2_stands.specs.Kept.{IsSame, lacks_head};
-ghost use Rattle.h2_stands.specs.Rooms.{KeepsCapacity};
+ghost use Rattle.h2_laws_kept.specs.Kept.{IsSame, lacks_head};
+ghost use Rattle.h2_laws_kept.specs.Rooms.{KeepsCapacity};
 
 use crate::session::Session;
 use h2_frames::Frame;

@@ -2,22 +2,21 @@
 
 ghost use Rattle.std.specs.Prelude.{◌≡◌, ◌≤◌, ◌<◌, ◌+◌, ◌-◌, ◌==◌, ◌^◌, ◌||◌, true, false, None, Some, OnOk, pos, ◌+ℤ◌, ◌≤ℤ◌, if◌then◌else◌};
 ghost use Rattle.h2_frames.specs.declared.frame.Frame.TheVariants as frame;
-ghost use Rattle.h2_model.proofs.Lives.{found};
+ghost use Rattle.h2_model.specs.State.{found};
 ghost use Rattle.h2_model.specs.Blocks.{more_of};
 ghost use Rattle.h2_model.specs.Moves.{adjusted, receiving, resetting, with_data, with_increment};
 ghost use Rattle.h2_model.specs.Settings.{least_in, setting_in};
 ghost use Rattle.h2_model.specs.declared.stream.Stream.{Stream};
 ghost use Rattle.h2_session.specs.Keeping.{KeepsRoom};
 ghost use Rattle.h2_session.specs.Steps.{CanCount, CanTake, IsAbsorbed};
-ghost use Rattle.h2_stands.specs.Kept.{IsSame};
-ghost use Rattle.h2_stands.specs.Rooms.{KeepsCapacity};
+ghost use Rattle.h2_laws_kept.specs.Kept.{IsSame};
+ghost use Rattle.h2_laws_kept.specs.Rooms.{KeepsCapacity};
 ghost use Rattle.h2_streams.specs.Changes.{Allows};
 ghost use Rattle.h2_streams.specs.declared.changes.Change.TheVariants.{IncrementCame};
 
 use crate::session::Session;
 use h2_frames::{Frame, Setting};
-use h2_rules::PartialBlock;
-use h2_streams::{Change, StreamTable};
+use h2_streams::{Change, PartialBlock, StreamTable};
 use hpack_core::Encoder;
 use std::alloc::AllocError;
 

@@ -4,31 +4,29 @@ ghost use Rattle.std.specs.Prelude.{◌≡◌, ◌≤◌, ◌<◌, ◌+◌, ◌-
 ghost use Rattle.std.specs.Option.{option_to_list};
 ghost use Rattle.hpack_core.specs.Tables.{kept};
 ghost use Rattle.h2_frames.specs.declared.frame.Frame.TheVariants as frame;
-ghost use Rattle.h2_model.specs.Calls.{Gives, MayHead, Role, can_open, control, is_open_here, kept_streams, now, sendable, unsent_bytes, waits};
+ghost use Rattle.h2_model.specs.Calls.{GivesBytes, MayHead, Role, can_open, control, is_open_here, kept_streams, now, sendable, unsent_bytes, waits};
 ghost use Rattle.h2_model.specs.History.{Call, Feed, Open, Head, Send, Finish, Reset, Take, next_number};
 ghost use Rattle.h2_model.specs.Moves.{giving, giving_all, handing, resetting};
 ghost use Rattle.h2_model.specs.Streams.{is_live};
 ghost use Rattle.h2_model.specs.Windows.{stream_window};
 ghost use Rattle.h2_model.specs.declared.stream.Stream.{Stream};
-ghost use Rattle.h2_model.proofs.Lives.{found};
+ghost use Rattle.h2_model.specs.State.{found};
 ghost use Rattle.h2_sender.specs.Sending.{data_kept};
 ghost use Rattle.h2_session.specs.Bytes.{begun_bytes, kept_bytes};
 ghost use Rattle.h2_session.specs.Keeping.{CanGive, CanGiveWhole, KeepsRoom, KeepsRooms, heading_as, leaves_a_stream, update_in};
 ghost use Rattle.h2_streams.specs.Changes.{Allows};
 ghost use Rattle.h2_streams.specs.declared.changes.Change.TheVariants.{DataSent};
-ghost use Rattle.h2_stands.specs.Kept.{IsBeside, IsSame, lacks_head};
-ghost use Rattle.h2_stands.specs.Rooms.{HasSpare, KeepsCapacity};
-ghost use Rattle.h2_stands.specs.StandsFor.{Stands, StandsFor};
+ghost use Rattle.h2_laws_kept.specs.Kept.{IsBeside, IsSame, lacks_head};
+ghost use Rattle.h2_laws_kept.specs.Rooms.{HasSpare, KeepsCapacity};
+ghost use Rattle.h2_laws_kept.specs.StandsFor.{Stands, StandsFor};
 
 use crate::feeding::PREFACE;
 use crate::judging::is_live;
 use ext_msgs::FieldList;
 use h2_frames::{Frame, FrameReader};
 use h2_model::NoStream;
-use h2_queue::Taken;
-use h2_rules::PartialBlock;
-use h2_sender::Sender;
-use h2_streams::{Change, Numbers, StreamTable};
+use h2_sender::{Sender, Taken};
+use h2_streams::{Change, Numbers, PartialBlock, StreamTable};
 use hpack_core::{Decoder, Encoder};
 use pb_wire::Blob;
 use std::alloc::{AllocError, Global};
@@ -74,7 +72,7 @@ pub struct Session {
 impl Model for Session {
     ghost use Rattle.std.specs.Prelude.{map};
     ghost use Rattle.h2_session.specs.Refused.{refused};
-    ghost use Rattle.h2_stands.specs.Kept.{Kept};
+    ghost use Rattle.h2_laws_kept.specs.Kept.{Kept};
 
     ghost Value = { Kept };
 
@@ -384,7 +382,7 @@ impl Session {
     pub fn take(&mut self, out: &mut [u8]) -> u32
         requires { length out.old < 2 ^ 32 }
         ensures within { result ≤ length out.old }
-        ensures gives { (r : Role) (h : List Call) → StandsFor r self.old h → Gives (now r h) out.old out.new result }
+        ensures gives { (r : Role) (h : List Call) → StandsFor r self.old h → GivesBytes (now r h) out.old out.new result }
         ensures stands { (r : Role) (h : List Call) → StandsFor r self.old h → StandsFor r self.new (Take result ∷ h) }
     {
         let Taken { bytes, whole } = self.sender.take(out);

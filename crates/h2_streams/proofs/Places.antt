@@ -8,9 +8,9 @@ use Rattle.std.proofs.lemmas.Bool.{eqb-true}
 use Rattle.std.proofs.lemmas.List.Elements.{All-head, All-tail}
 use Rattle.std.proofs.lemmas.Grind.{common_steps}
 use Rattle.h2_model.specs.declared.stream.Stream.{Stream}
-use Rattle.h2_model.proofs.Lives.{found}
+use Rattle.h2_model.specs.State.{found}
 use Rattle.h2_model.specs.Moves.{adjusted}
-use Rattle.h2_streams.specs.Tables.{Ascends, Apart, IsInRange}
+use Rattle.h2_streams.specs.Tables.{Ascends, Apart, HasCreditInRange}
 
 pub is_below : (a b : ℕ) → nat_lt a b ≡ true → a < b
 is_below a b e = grind (arith, common_steps, e)
@@ -137,10 +137,10 @@ unequal a b h = by (a == b) refl
     by false e = e
 
 -- what is true of each stream is true of the one that is found
-pub found-range : (id : ℕ) (streams : List Stream) → All IsInRange streams → IfSome (found id streams) IsInRange
+pub found-range : (id : ℕ) (streams : List Stream) → All HasCreditInRange streams → IfSome (found id streams) HasCreditInRange
 found-range id [] r = tt
-found-range id (s ∷ streams) r = by (s.id == id) (All-head IsInRange s streams r) (found-range id streams (All-tail IsInRange s streams r))
+found-range id (s ∷ streams) r = by (s.id == id) (All-head HasCreditInRange s streams r) (found-range id streams (All-tail HasCreditInRange s streams r))
   where
-    by : (c : Bool) → IsInRange s → IfSome (found id streams) IsInRange → IfSome (if c then Some s else found id streams) IsInRange
+    by : (c : Bool) → HasCreditInRange s → IfSome (found id streams) HasCreditInRange → IfSome (if c then Some s else found id streams) HasCreditInRange
     by true here behind = here
     by false here behind = behind

@@ -1,8 +1,8 @@
 -- What becomes of a live stream by what happens to it.
-use Rattle.std.specs.Prelude.{ℕ, zero, suc, ◌≡◌, ◌+◌, ◌<◌, ◌^◌, Bool, ◌&&◌, Option, Some, None, pos, negsuc, ◌+ℤ◌, ◌-ℤ◌, ◌≤ℤ◌}
+use Rattle.std.specs.Prelude.{ℕ, zero, suc, ◌≡◌, ◌+◌, ◌<◌, ◌^◌, ◌&&◌, Option, Some, None, pos, negsuc, ◌+ℤ◌, ◌-ℤ◌, ◌≤ℤ◌}
 use Rattle.h2_model.specs.declared.stream.Stream.{Stream}
 use Rattle.h2_model.specs.Moves.{with_data, with_end, with_increment, with_sent, with_block_sent, with_update, with_room}
-use Rattle.h2_streams.specs.Tables.{IsInRange}
+use Rattle.h2_streams.specs.Tables.{HasCreditInRange}
 use Rattle.h2_streams.specs.declared.changes.Change.{Change}
 use Rattle.h2_streams.specs.declared.changes.Change.TheVariants.{DataCame, BlockCame, HeadCame, IncrementCame, DataSent, BlockSent, UpdateOwed, UpdateGiven, Reset}
 
@@ -33,4 +33,4 @@ Counts other t = Unit {0}
 -- what a change keeps of a stream
 pub record Same (t s : Stream) : Type 0 where
   pub id : s.id ≡ t.id
-  pub range : IsInRange s
+  pub range : HasCreditInRange s

@@ -1,4 +1,4 @@
 pub mod Tables
 pub mod Changes
-pub mod Opened
-pub mod Known
+pub mod Rows
+pub mod Settings

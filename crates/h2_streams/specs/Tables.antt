@@ -1,5 +1,5 @@
 -- What is true of a table of live streams.
-use Rattle.std.specs.Prelude.{ℕ, ◌≡◌, ◌<◌, ◌==◌, ◌^◌, Bool, false, List, [], ◌∷◌, length, All, ℤ, pos, negsuc, ◌≤ℤ◌}
+use Rattle.std.specs.Prelude.{ℕ, ◌≡◌, ◌<◌, ◌==◌, ◌^◌, false, List, [], ◌∷◌, All, ℤ, pos, negsuc, ◌≤ℤ◌}
 use Rattle.std.specs.List.{AllPairs}
 use Rattle.h2_model.specs.declared.stream.Stream.{Stream}
 
@@ -13,13 +13,13 @@ Apart id [] = Unit {0}
 Apart id (s ∷ streams) = ((s.id == id) ≡ false) × Apart id streams
 
 -- credits stay far from the ends of their type
-pub record IsInRange (s : Stream) : Type 0 where
+pub record HasCreditInRange (s : Stream) : Type 0 where
   pub low : negsuc (2 ^ 33) ≤ℤ s.credit
   pub high : s.credit ≤ℤ pos (2 ^ 33)
 
-pub record IsTable (streams : List Stream) : Type 0 where
+pub record IsStreamTable (streams : List Stream) : Type 0 where
   pub order : Ascends streams
-  pub range : All IsInRange streams
+  pub range : All HasCreditInRange streams
 
 -- what contracts see of a table
 pub record Table : Type 0 where

@@ -3,7 +3,7 @@
 ghost use Rattle.std.specs.Prelude.{◌≡◌, IfSome};
 ghost use Rattle.h2_model.specs.Moves.{new_stream, unless_over};
 ghost use Rattle.h2_streams.specs.Changes.{changed, Allows, Counts, Same};
-ghost use Rattle.h2_streams.specs.Tables.{IsInRange};
+ghost use Rattle.h2_streams.specs.Tables.{HasCreditInRange};
 
 use h2_model::Stream;
 
@@ -60,7 +60,7 @@ fn unless_over(stream: Stream) -> Option<Stream>
 #[tactic(auto, unfolding(crate::specs::Changes::changed))]
 pub(crate) fn changed(stream: Stream, change: Change) -> Option<Stream>
     requires fits { Allows change stream }
-    requires range { IsInRange stream }
+    requires range { HasCreditInRange stream }
     ensures changed { Counts change stream → result ≡ changed change stream }
     ensures same { IfSome result (Same stream) }
 {

@@ -2,17 +2,11 @@
 
 ghost use Rattle.std.specs.Prelude.{◌≡◌, ◌≤◌, ◌<◌, ◌+◌, ◌-◌, ◌%◌, ◌^◌, ◌++◌, ◌∷◌, [], if◌then◌else◌, ◌==◌, OnOk, OnErr, true};
 ghost use Rattle.std.specs.List.{list_any};
-ghost use Rattle.h2_streams.specs.Opened.{has, is_within, may_have, last_of, with_number};
+ghost use Rattle.h2_model.specs.Numbers.{has, is_within, may_have, last_of, with_number};
 
+use h2_model::Gap;
 use std::alloc::{AllocError, Global};
 use std::marker::Model;
-
-/// Numbers that a peer passed over: odd ones from the first to the last.
-#[derive(Clone, Copy, Debug)]
-struct Gap {
-    first: u32,
-    last: u32,
-}
 
 /// How many gaps are kept. A peer that passes over numbers more often is answered as out of memory.
 const MOST_GAPS: usize = 1_024;
@@ -28,9 +22,9 @@ pub struct Numbers {
 
 impl Model for Numbers {
     ghost use Rattle.std.specs.Prelude.{◌≡◌, ◌≤◌, ◌<◌, ◌+◌, ◌%◌, ◌^◌};
-    ghost use Rattle.h2_streams.specs.Opened.{Opened};
+    ghost use Rattle.h2_model.specs.Numbers.{Numbers};
 
-    ghost Value = { Opened };
+    ghost Value = { Numbers };
 
     ghost view = { λ n. record { next = n.next; gaps = n.gaps.items } };
 

@@ -2,12 +2,12 @@
 
 ghost use Rattle.std.specs.Prelude.{◌≡◌, ◌≤◌, ◌<◌, ◌+◌, ◌^◌, ◌++◌, ◌∷◌, [], length, take, drop, All, Some, None, OnOk, OnErr, IfOk, IsSome, ◌↔◌, pos, ◌+ℤ◌, ◌≤ℤ◌, vec_len, vec_capacity, MatchOption, IfSome, IfNone, ℕ, slice_index_or};
 ghost use Rattle.h2_model.specs.declared.stream.Stream.{Stream};
-ghost use Rattle.h2_model.proofs.Lives.{found};
+ghost use Rattle.h2_model.specs.State.{found};
 ghost use Rattle.h2_model.specs.Moves.{adjusted, new_stream, unless_over, with_data, with_increment, with_end, with_update, with_sent, with_block_sent, with_room, with_head};
 ghost use Rattle.std.specs.List.{list_any};
 ghost use Rattle.h2_model.specs.Windows.{is_too_wide};
 ghost use Rattle.h2_streams.specs.Changes.{changed, Allows, Counts};
-ghost use Rattle.h2_streams.specs.Tables.{Ascends, Apart, IsInRange, IsTable};
+ghost use Rattle.h2_streams.specs.Tables.{Ascends, Apart, HasCreditInRange, IsStreamTable};
 
 use crate::changes::{self, Change, changed};
 use h2_model::Stream;
@@ -23,13 +23,13 @@ pub struct StreamTable {
 impl Model for StreamTable {
     ghost use Rattle.std.specs.Prelude.{◌-◌, vec_len, vec_capacity};
     ghost use Rattle.h2_streams.specs.Changes.{changed, Allows, Counts};
-    ghost use Rattle.h2_streams.specs.Tables.{Table, IsTable};
+    ghost use Rattle.h2_streams.specs.Tables.{Table, IsStreamTable};
 
     ghost Value = { Table };
 
     ghost view = { λ t. record { streams = t.streams.items; room = vec_capacity t.streams - vec_len t.streams } };
 
-    ghost invariant = { λ t. IsTable t.streams.items };
+    ghost invariant = { λ t. IsStreamTable t.streams.items };
 }
 
 // The place of a number: where it stands, or would.
@@ -71,10 +71,10 @@ fn stream_in(streams: &[Stream], id: u32) -> Option<Stream>
 }
 
 fn change_in(streams: &mut Vec<Stream>, id: u32, change: Change)
-    requires table { IsTable streams.old.items }
+    requires table { IsStreamTable streams.old.items }
     requires fits { (t : Stream) → found id streams.old.items ≡ Some t → Allows change t }
     ensures items { ((t : Stream) → found id streams.old.items ≡ Some t → Counts change t) → streams.new.items ≡ adjusted id (changed change) streams.old.items }
-    ensures table { IsTable streams.new.items }
+    ensures table { IsStreamTable streams.new.items }
     ensures len { vec_len streams.new ≤ vec_len streams.old }
     ensures capacity { vec_capacity streams.new ≡ vec_capacity streams.old }
 {
@@ -92,14 +92,14 @@ fn change_in(streams: &mut Vec<Stream>, id: u32, change: Change)
 
 // Whether a stream's sending window is above 2^31 - 1 at this initial size.
 fn is_too_wide(initial: u32, stream: &Stream) -> bool
-    requires { IsInRange stream.now }
+    requires { HasCreditInRange stream.now }
     ensures { result ≡ is_too_wide (pos initial +ℤ stream.now.credit) }
 {
     i64::from(initial) + stream.credit > 2_147_483_647
 }
 
 fn widens(streams: &[Stream], initial: u32) -> bool
-    requires { All IsInRange streams.now }
+    requires { All HasCreditInRange streams.now }
     ensures { result ≡ list_any (λ t. is_too_wide (pos initial +ℤ t.credit)) streams.now }
 {
     for i in 0..streams.len() {
@@ -112,11 +112,11 @@ fn widens(streams: &[Stream], initial: u32) -> bool
 
 // A stream above all the others.
 fn open_in(streams: &mut Vec<Stream>, id: u32)
-    requires table { IsTable streams.old.items }
+    requires table { IsStreamTable streams.old.items }
     requires room { vec_len streams.old < vec_capacity streams.old }
     ensures items { ((k : ℕ) (d : Stream) → k < length streams.old.items → (slice_index_or streams.old.items k d).id < id) →
         streams.new.items ≡ streams.old.items ++ new_stream id ∷ [] }
-    ensures table { IsTable streams.new.items }
+    ensures table { IsStreamTable streams.new.items }
     ensures len { vec_len streams.new ≤ vec_len streams.old + 1 }
     ensures capacity { vec_capacity streams.new ≡ vec_capacity streams.old }
 {
@@ -161,7 +161,7 @@ impl StreamTable {
     /// The stream of a number, where it is live.
     pub fn get(&self, id: u32) -> Option<Stream>
         ensures stream { result ≡ found id self.now.streams }
-        ensures range { IfSome result IsInRange }
+        ensures range { IfSome result HasCreditInRange }
     {
         stream_in(self.streams.as_slice(), id)
     }

@@ -11,7 +11,7 @@ use ext_msgs::{HeaderMutation, SetField};
 use std::marker::Model;
 
 // Contracts see an `Item`: its name is in lower case, unless it begins with `:`.
-#[derive(Debug, Drop)]
+#[derive(Drop)]
 pub(crate) struct Edit<'a> {
     pub(crate) is_removal: bool,
     // Whether name and value, as they were written, may stand.

@@ -11,8 +11,6 @@ mod names;
 mod reply;
 mod rules;
 mod setup;
-#[cfg(test)]
-mod tests;
 mod values;
 mod verdict;
 

@@ -5,7 +5,7 @@ use pb_wire::Duplicate;
 use std::alloc::AllocError;
 
 /// Which fields a processor may change: `HeaderMutationRules` of `envoy.config.common.mutation_rules.v3`.
-#[derive(Debug, Drop)]
+#[derive(Drop)]
 pub struct Rules {
     /// `host`, `:authority`, `:scheme` and `:method` may be changed.
     pub allow_all_routing: bool,
@@ -40,7 +40,7 @@ impl Duplicate for Rules {
 }
 
 /// What a mutation changes.
-#[derive(Clone, Copy, Debug, PartialEq, Eq)]
+#[derive(Clone, Copy)]
 pub enum PartKind {
     RequestHead,
     ResponseHead,
@@ -48,7 +48,7 @@ pub enum PartKind {
 }
 
 /// Why a mutation has no result. A place is the number of an item, from 0: removals first, then settings.
-#[derive(Clone, Copy, Debug, PartialEq, Eq)]
+#[derive(Clone, Copy)]
 pub enum MutFault {
     /// The item's name or value is invalid: the answer is malformed.
     Bad(u32),

@@ -4,7 +4,7 @@ use crate::Rules;
 use ext_msgs::PartModes;
 
 /// What one direction of an exchange is made with.
-#[derive(Debug, Drop)]
+#[derive(Drop)]
 pub struct HalfSetup {
     /// The direction is that of the response.
     pub response: bool,
@@ -17,7 +17,7 @@ pub struct HalfSetup {
 }
 
 /// Why an answer is refused. A place is that of the fault in the answer's mutation.
-#[derive(Clone, Copy, Debug, PartialEq, Eq)]
+#[derive(Clone, Copy)]
 pub enum HalfFault {
     /// No ask of this part is out, or the answer has a `streamed_response`.
     Spurious,

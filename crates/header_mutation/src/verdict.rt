@@ -10,7 +10,7 @@ use crate::names::{
 };
 use ext_msgs::FieldList;
 
-#[derive(Clone, Copy, Debug, PartialEq, Eq)]
+#[derive(Clone, Copy)]
 pub(crate) enum Verdict {
     Ignored,
     Forbidden,

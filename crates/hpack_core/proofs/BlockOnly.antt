@@ -7,7 +7,7 @@ use Rattle.hpack_prim.specs.Integers.{IsInt, int_at}
 use Rattle.hpack_prim.proofs.IntegerLaws.{int_only}
 use Rattle.ext_msgs.specs.declared.lists.Field.{Field}
 use Rattle.hpack_core.specs.Static.{entry, static_table}
-use Rattle.hpack_core.specs.Tables.{State, size, total}
+use Rattle.hpack_core.specs.Tables.{TableState, size, total}
 use Rattle.hpack_core.specs.Reading.{step, entry_at, name_at, string_at, literal_at, indexed_at, added_at, plain_at, resized_at, step_at, with_field, fields_in, block_of}
 use Rattle.hpack_core.specs.Blocks.{lead_of, IsEntry, IsName, IsLiteral, IsRepr, Block}
 use Rattle.hpack_core.specs.Blocks.IsRepr.{indexed, incremental, resize, never, plain}
@@ -67,7 +67,7 @@ int_some prefix (b ∷ s) n i = omega arith
 literal_some : (entries : List Field) (prefix : ℕ) (s : List ℕ) (f : Field) → IsLiteral entries prefix s f → 0 < length s
 literal_some entries prefix s f i = let a = int_some prefix i.lead i.index i.int in let l = ap length i.whole ∙ length-append i.lead (i.name_spelling ++ i.value_spelling) in omega arith
 
-repr_some : (t : State) (first : Bool) (s : List ℕ) (o : Option Field) (u : State) → IsRepr t first s o u → 0 < length s
+repr_some : (t : TableState) (first : Bool) (s : List ℕ) (o : Option Field) (u : TableState) → IsRepr t first s o u → 0 < length s
 repr_some t _ _ _ _ (indexed first s i f low n e) = int_some 7 s i n
 repr_some t _ _ _ _ (incremental first s f low high l) = literal_some t.entries 6 s f l
 repr_some t _ _ _ _ (resize s n low high i le) = int_some 5 s n i
@@ -79,7 +79,7 @@ first_is bytes at [] rest e some = absurd (omega arith)
 first_is bytes at (b ∷ s) rest e some = let z : at + 0 ≡ at = omega arith in sym (ap (λ (k : ℕ). get_or bytes k 0) z) ∙ sym (get_or-drop at bytes 0 0) ∙ ap lead_of e
 
 -- a representation in the grammar is read
-repr_only : (bytes : List ℕ) (at : ℕ) (rest : List ℕ) (t : State) (first : Bool) (s : List ℕ) (o : Option Field) (u : State) → drop at bytes ≡ s ++ rest → at ≤ length bytes → IsRepr t first s o u → step_at t first bytes at ≡ Ok (step o u (at + length s))
+repr_only : (bytes : List ℕ) (at : ℕ) (rest : List ℕ) (t : TableState) (first : Bool) (s : List ℕ) (o : Option Field) (u : TableState) → drop at bytes ≡ s ++ rest → at ≤ length bytes → IsRepr t first s o u → step_at t first bytes at ≡ Ok (step o u (at + length s))
 unfolding step_at indexed_at added_at plain_at resized_at
 repr_only bytes at rest t _ _ _ _ e inside (indexed first s i f low n g) =
     let h = first_is bytes at s rest e (int_some 7 s i n) in
@@ -100,7 +100,7 @@ repr_only bytes at rest t _ _ _ _ e inside (plain first s f low l) =
     rw (h, lt-leb 128 (lead_of s) (omega arith), lt-leb 64 (lead_of s) (omega arith), lt-leb 32 (lead_of s) (omega arith), literal_only t.entries bytes at 4 s rest f e inside l) refl
 
 -- a block in the grammar is read, where the sizes have room
-fields_only : (bytes bs : List ℕ) (t : State) (first : Bool) (fs : List Field) (v : State) (most room at : ℕ) → Block t first bs fs v → drop at bytes ≡ bs → at ≤ length bytes → total fs ≤ room → length bytes - at < most
+fields_only : (bytes bs : List ℕ) (t : TableState) (first : Bool) (fs : List Field) (v : TableState) (most room at : ℕ) → Block t first bs fs v → drop at bytes ≡ bs → at ≤ length bytes → total fs ≤ room → length bytes - at < most
     → fields_in most bytes t first room at ≡ Ok (fs, v)
 fields_only bytes _ _ _ _ _ most room at (done t first) e inside fit enough =
     let p = pred_of most (length bytes - at) enough in
@@ -122,6 +122,6 @@ fields_only bytes _ _ _ _ _ most room at (other t u v first s rest fs r b) e ins
     ap (λ (m : ℕ). fields_in m bytes t first room at) p.1 ∙ fields_more p.0 bytes t first room at (Ok (step None u next)) (omega arith) (repr_only bytes at rest t first s None u e inside r)
     ∙ fields_only bytes rest u first fs v p.0 room next b (behind bytes at s rest e) w fit (let q = p.1 in omega arith)
 
-pub block_only : (bytes : List ℕ) (t : State) (fs : List Field) (v : State) → Block t true bytes fs v → total fs ≤ 65536 → block_of t bytes ≡ Ok (fs, v)
+pub block_only : (bytes : List ℕ) (t : TableState) (fs : List Field) (v : TableState) → Block t true bytes fs v → total fs ≤ 65536 → block_of t bytes ≡ Ok (fs, v)
 unfolding block_of
 block_only bytes t fs v b fit = fields_only bytes bytes t true fs v (length bytes + 1) 65536 0 b refl (omega arith) fit (omega arith)

@@ -4,7 +4,7 @@ use borrow.Author.Tests.{ltb-true, ltb-false, leb-true, leb-false, lt-leb, le-le
 use Rattle.std.proofs.lemmas.List.{drop-drop, drop_at, take-append-drop, length-take-le, length-drop, get_or-drop, length-append, take_at}
 use Rattle.hpack_prim.specs.declared.fault.PrimFault.{PrimFault}
 use Rattle.hpack_core.specs.declared.fault.HpackFault.{HpackFault}
-use Rattle.hpack_core.specs.declared.fault.HpackFault.TheVariants.{Prim, Index}
+use Rattle.hpack_core.specs.declared.fault.HpackFault.TheVariants.{Index}
 use Rattle.hpack_prim.specs.Integers.{IsInt, AreBytes, int_at}
 use Rattle.hpack_prim.specs.Huffman.{huff_of}
 use Rattle.hpack_prim.proofs.IntegerLaws.{int_found, int_only}
@@ -12,7 +12,7 @@ use Rattle.hpack_prim.proofs.HuffmanLaws.{huff_found, huff_only}
 use Rattle.hpack_core.specs.Reading.{◌>>=◌, prim, placed, string_of, string_at, entry_at, name_at, literal_at}
 use Rattle.ext_msgs.specs.declared.lists.Field.{Field}
 use Rattle.hpack_core.specs.Static.{entry, static_table}
-use Rattle.hpack_core.specs.Blocks.{lead_of, StandsFor, IsString, IsEntry, IsName, IsLiteral}
+use Rattle.hpack_core.specs.Blocks.{lead_of, StringStandsFor, IsString, IsEntry, IsName, IsLiteral}
 
 pub bind_ok : {A B : Type 0} (r : Result A HpackFault) (f : A → Result B HpackFault) (y : B) → (r >>= f) ≡ Ok y → (x : A) × (r ≡ Ok x) × (f x ≡ Ok y)
 bind_ok (Ok x) f y e = (x, refl, e)
@@ -53,7 +53,7 @@ int_lies prefix at bytes n next a e =
     let z : at + 0 ≡ at = omega arith in
     record { lead = s.spelling; whole = s.whole ∙ ap (λ (v : List ℕ). s.spelling ++ v) (sym r); int = s.int; first = lead_first prefix n s.spelling s.rest (drop at bytes) s.int s.whole ∙ get_or-drop at bytes 0 0 ∙ ap (λ (k : ℕ). get_or bytes k 0) z }
 
-stands : (lead at : ℕ) (raw text : List ℕ) (b : Bool) → nat_le 128 lead ≡ b → string_of b at raw ≡ Ok text → StandsFor lead raw text
+stands : (lead at : ℕ) (raw text : List ℕ) (b : Bool) → nat_le 128 lead ≡ b → string_of b at raw ≡ Ok text → StringStandsFor lead raw text
 unfolding string_of
 stands lead at raw text true t e = inr (leb-true 128 lead t, huff_found raw text (placed_ok at (huff_of raw) text e))
 stands lead at raw text false t e = let h = leb-false 128 lead t in let f : raw ≡ text = cc in inl (h, sym f)
@@ -108,7 +108,7 @@ string_lies bytes at text next a e =
         raw = raw;
         whole = refl;
         int = subst (λ (k : ℕ). IsInt 7 i.lead k) (sym len) i.int;
-        stands = subst (λ (k : ℕ). StandsFor k raw text) (sym i.first) (stands (get_or bytes at 0) n.0.1 raw text (nat_le 128 (get_or bytes at 0)) refl (s.1 ∙ ap Ok te));
+        stands = subst (λ (k : ℕ). StringStandsFor k raw text) (sym i.first) (stands (get_or bytes at 0) n.0.1 raw text (nat_le 128 (get_or bytes at 0)) refl (s.1 ∙ ap Ok te));
       };
     }
 
@@ -171,7 +171,7 @@ literal_lies entries bytes at prefix f next a e =
 
 -- ---- what is spelled so is read
 
-stands_only : (lead at : ℕ) (raw text : List ℕ) → StandsFor lead raw text → string_of (nat_le 128 lead) at raw ≡ Ok text
+stands_only : (lead at : ℕ) (raw text : List ℕ) → StringStandsFor lead raw text → string_of (nat_le 128 lead) at raw ≡ Ok text
 unfolding string_of
 stands_only lead at raw text s = elim s [
   | inl p ↦ rw (lt-leb 128 lead p.0) (ap okay_text (sym p.1))

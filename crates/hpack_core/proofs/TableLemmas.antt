@@ -2,6 +2,7 @@
 use Rattle.std.proofs.Common.{◌≡◌, ℕ, ◌+◌, ◌-◌, ◌*◌, ◌<◌, ◌≤◌, List, [], ◌∷◌, ◌++◌, length, refl, ap, sym, ◌∙◌, arith, lt-ltb, le-ltb, ◌⊎◌, inl, inr}
 use Rattle.ext_msgs.specs.declared.lists.Field.{Field}
 use Rattle.hpack_core.specs.Tables.{size, total, kept, cut}
+use Rattle.hpack_prim.proofs.IntegerLemmas.{below_or_not}
 
 pub cut_stop : (room : ℕ) (e : Field) (es : List Field) → room < size e → cut room (e ∷ es) ≡ []
 unfolding cut
@@ -19,9 +20,6 @@ cut-nil room = refl
 pub cut_all : (room : ℕ) (es : List Field) → total es ≤ room → cut room es ≡ es
 cut_all room [] fits = cut-nil room
 cut_all room (e ∷ es) fits = cut_more room (room - size e) e es (omega arith) ∙ ap (λ (v : List Field). e ∷ v) (cut_all (room - size e) es (omega arith))
-
-below_or_not : (n m : ℕ) → (n < m) ⊎ (m ≤ n)
-below_or_not n m = grind arith
 
 pub total_append : (xs ys : List Field) → total (xs ++ ys) ≡ total xs + total ys
 total_append [] ys = omega arith

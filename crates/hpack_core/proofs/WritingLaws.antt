@@ -7,13 +7,14 @@ use Rattle.hpack_prim.specs.Integers.{IsInt, int}
 use Rattle.hpack_prim.proofs.IntegerLaws.{int_is}
 use Rattle.ext_msgs.specs.declared.lists.Field.{Field}
 use Rattle.hpack_core.specs.Static.{entry, static_table}
-use Rattle.hpack_core.specs.Tables.{State, cut}
+use Rattle.hpack_core.specs.Tables.{TableState, cut}
 use Rattle.hpack_core.specs.Blocks.{lead_of, IsString, IsEntry, IsName, IsRepr, Block}
 use Rattle.hpack_core.specs.Blocks.IsRepr.{indexed, resize, plain}
 use Rattle.hpack_core.specs.Blocks.Block.{done, field, other}
 use Rattle.hpack_core.specs.Writing.{StringWritten, first_from, is_name, is_field, field_number, name_number, NameWritten, FieldWritten, FieldsWritten, update, BlockWritten}
 use Rattle.hpack_core.proofs.StringLaws.{lead_append}
 use Rattle.hpack_core.proofs.StaticLemmas.{count}
+use Rattle.hpack_prim.proofs.Codes.{both}
 
 -- the first byte of an integer as it is written
 pub record Lead (prefix first n : ℕ) : Type 0 where
@@ -62,11 +63,6 @@ hit : (p : Field → Bool) (from : ℕ) (es : List Field) (n : ℕ) → first_fr
 unfolding first_from
 hit p from [] n e = (cc)
 hit p from (x ∷ es) n e = hit_at p from x es n (p x) refl (λ m f. hit p (from + 1) es m f) e
-
-both : (p q : Bool) → (p && q) ≡ true → (p ≡ true) × (q ≡ true)
-both true true h = (refl, refl)
-both true false h = (cc)
-both false q h = (cc)
 
 equal : (f e : Field) → is_field f e ≡ true → f ≡ e
 equal f e h =
@@ -133,7 +129,7 @@ name_is entries name s None e short w = record {
   high = (lead 4 0 0 (omega arith)).high;
 }
 
-field_at : (t : State) (first : Bool) (f : Field) (s : List ℕ) (o : Option ℕ) → field_number f ≡ o → length f.name < 2 ^ 32 → length f.value < 2 ^ 32 → FieldWritten o f s → IsRepr t first s (Some f) t
+field_at : (t : TableState) (first : Bool) (f : Field) (s : List ℕ) (o : Option ℕ) → field_number f ≡ o → length f.name < 2 ^ 32 → length f.value < 2 ^ 32 → FieldWritten o f s → IsRepr t first s (Some f) t
 field_at t first f s (Some n) e short small w =
     let h = field_numbered t.entries f n e in let l = lead 7 128 n (omega arith) in
     subst (λ (x : List ℕ). IsRepr t first x (Some f) t) (sym w) (indexed first (int 7 128 n) n f l.low (int_is 7 128 n (omega arith) (omega arith) (omega arith) (omega (arith, h.small))) h.is)
@@ -150,7 +146,7 @@ Short f = (length f.name < 2 ^ 32) × (length f.value < 2 ^ 32)
 all_behind : (f : Field) (fs : List Field) → All Short (f ∷ fs) → All Short fs
 all_behind f fs a = λ k d less. a (suc k) d (omega arith)
 
-fields_are : (t : State) (first : Bool) (fs : List Field) (s : List ℕ) → All Short fs → FieldsWritten fs s → Block t first s fs t
+fields_are : (t : TableState) (first : Bool) (fs : List Field) (s : List ℕ) → All Short fs → FieldsWritten fs s → Block t first s fs t
 fields_are t first [] s a w = subst (λ (x : List ℕ). Block t first x [] t) (sym w) (done t first)
 fields_are t first (f ∷ fs) s a w =
     let h = a 0 f (omega arith) in
@@ -158,7 +154,7 @@ fields_are t first (f ∷ fs) s a w =
 
 -- ---- blocks
 
-abbrev pub empty : ℕ → State
+abbrev pub empty : ℕ → TableState
 empty limit = record { entries = []; limit = limit }
 
 updated : (known limit : ℕ) (fs : List Field) (s : List ℕ) (b : Bool) → nat_lt limit known ≡ b → limit ≤ known → known ≤ 4096 → Block (empty limit) true s fs (empty limit) → Block (empty known) true (update known limit ++ s) fs (empty limit)

@@ -21,9 +21,6 @@ pub record SoFar (items : List Field) (index : ℕ) (start now : List ℕ) : Typ
   pub fields : FieldsWritten (take index items) bytes
   pub whole : now ≡ start ++ bytes
 
-pub starts : (items : List Field) (start : List ℕ) → SoFar items 0 start start
-starts items start = record { bytes = []; fields = refl; whole = sym (append-nil start) }
-
 pub goes_on : (items : List Field) (index : ℕ) (f : Field) (start now next t : List ℕ) → index < length items → f ≡ get_or items index f → SoFar items index start now → FieldWritten (field_number f) f t → next ≡ now ++ t
     → SoFar items (index + 1) start next
 goes_on items index f start now next t less is s w e = record {

@@ -9,7 +9,7 @@ use Rattle.hpack_prim.specs.Integers.{int_at}
 use Rattle.hpack_prim.specs.Huffman.{huff_of}
 use Rattle.ext_msgs.specs.declared.lists.Field.{Field}
 use Rattle.hpack_core.specs.Static.{entry, static_table}
-use Rattle.hpack_core.specs.Tables.{State, size, added, resized}
+use Rattle.hpack_core.specs.Tables.{TableState, size, added, resized}
 
 infixl 10 ◌>>=◌
 abbrev pub ◌>>=◌ : {A B : Type 0} → Result A HpackFault → (A → Result B HpackFault) → Result B HpackFault
@@ -46,16 +46,16 @@ string_at bytes at = do
     Ok (s, n.1 + n.0))
 
 -- What a function returned, seen by view, is what reading gives, unless memory ran out.
-abbrev pub Fails : {Y : Type 0} → HpackFault → Result Y HpackFault → Type 0
-Fails Memory read = Unit {0}
-Fails (Prim f) read = read ≡ Err (Prim f)
-Fails (Index p) read = read ≡ Err (Index p)
-Fails (TableSize p) read = read ≡ Err (TableSize p)
-Fails ListSize read = read ≡ Err ListSize
+abbrev pub FailsWith : {Y : Type 0} → HpackFault → Result Y HpackFault → Type 0
+FailsWith Memory read = Unit {0}
+FailsWith (Prim f) read = read ≡ Err (Prim f)
+FailsWith (Index p) read = read ≡ Err (Index p)
+FailsWith (TableSize p) read = read ≡ Err (TableSize p)
+FailsWith ListSize read = read ≡ Err ListSize
 
-abbrev pub Gives : {X Y : Type 0} → (X → Y) → Result X HpackFault → Result Y HpackFault → Type 0
-Gives view (Ok x) read = read ≡ Ok (view x)
-Gives view (Err e) read = Fails e read
+abbrev pub GivesValue : {X Y : Type 0} → (X → Y) → Result X HpackFault → Result Y HpackFault → Type 0
+GivesValue view (Ok x) read = read ≡ Ok (view x)
+GivesValue view (Err e) read = FailsWith e read
 
 -- the entry of an index, in the representation at a place
 unfoldable pub entry_at : List Field → ℕ → ℕ → Result Field HpackFault
@@ -82,51 +82,51 @@ literal_at entries bytes at prefix = do
 -- what the representation at a place gives: a field or none, the table behind it, and the next place
 pub record Step : Type 0 where
   pub field : Option Field
-  pub table : State
+  pub table : TableState
   pub next : ℕ
 
-abbrev pub step : Option Field → State → ℕ → Step
+abbrev pub step : Option Field → TableState → ℕ → Step
 step field table next = record { field = field; table = table; next = next }
 
-unfoldable pub indexed_at : State → List ℕ → ℕ → Result Step HpackFault
+unfoldable pub indexed_at : TableState → List ℕ → ℕ → Result Step HpackFault
 indexed_at table bytes at = do
   i ← prim (int_at 7 at (drop at bytes))
   f ← entry_at table.entries at i.0
   Ok (step (Some f) table i.1)
 
-unfoldable pub added_at : State → List ℕ → ℕ → Result Step HpackFault
+unfoldable pub added_at : TableState → List ℕ → ℕ → Result Step HpackFault
 added_at table bytes at = do
   f ← literal_at table.entries bytes at 6
   Ok (step (Some f.0) (added f.0 table) f.1)
 
-unfoldable pub plain_at : State → List ℕ → ℕ → Result Step HpackFault
+unfoldable pub plain_at : TableState → List ℕ → ℕ → Result Step HpackFault
 plain_at table bytes at = do
   f ← literal_at table.entries bytes at 4
   Ok (step (Some f.0) table f.1)
 
-unfoldable pub resized_at : State → Bool → List ℕ → ℕ → Result Step HpackFault
+unfoldable pub resized_at : TableState → Bool → List ℕ → ℕ → Result Step HpackFault
 resized_at table first bytes at = do
   n ← prim (int_at 5 at (drop at bytes))
   if nat_lt 4096 n.0 then Err (TableSize at) else (if first then Ok (step None (resized n.0 table) n.1) else Err (TableSize at))
 
-unfoldable pub step_at : State → Bool → List ℕ → ℕ → Result Step HpackFault
+unfoldable pub step_at : TableState → Bool → List ℕ → ℕ → Result Step HpackFault
 step_at table first bytes at =
     let b = get_or bytes at 0 in
     if nat_le 128 b then indexed_at table bytes at else
     (if nat_le 64 b then added_at table bytes at else
     (if nat_le 32 b then resized_at table first bytes at else plain_at table bytes at))
 
-abbrev pub with_field : Field → Result (List Field × State) HpackFault → Result (List Field × State) HpackFault
+abbrev pub with_field : Field → Result (List Field × TableState) HpackFault → Result (List Field × TableState) HpackFault
 with_field f (Ok p) = Ok (f ∷ p.0, p.1)
 with_field f (Err e) = Err e
 
 -- what a step gives, where the rest is given
-abbrev pub from_step : Option Field → State → ℕ → Bool → ℕ → (State → Bool → ℕ → ℕ → Result (List Field × State) HpackFault) → Result (List Field × State) HpackFault
+abbrev pub from_step : Option Field → TableState → ℕ → Bool → ℕ → (TableState → Bool → ℕ → ℕ → Result (List Field × TableState) HpackFault) → Result (List Field × TableState) HpackFault
 from_step None table next first room more = more table first room next
 from_step (Some f) table next first room more = if nat_lt room (size f) then Err ListSize else with_field f (more table false (room - size f) next)
 
 -- the fields from a place on, in so many representations at most, whose sizes may take so much room
-unfoldable pub fields_in : ℕ → List ℕ → State → Bool → ℕ → ℕ → Result (List Field × State) HpackFault
+unfoldable pub fields_in : ℕ → List ℕ → TableState → Bool → ℕ → ℕ → Result (List Field × TableState) HpackFault
 fields_in zero bytes table first room at = Err ListSize
 fields_in (suc most) bytes table first room at =
     if nat_lt at (length bytes) then (do
@@ -134,5 +134,5 @@ fields_in (suc most) bytes table first room at =
       from_step s.field s.table s.next first room (λ t f r n. fields_in most bytes t f r n)) else Ok ([], table)
 
 -- the fields of a block, and the table behind it
-unfoldable pub block_of : State → List ℕ → Result (List Field × State) HpackFault
+unfoldable pub block_of : TableState → List ℕ → Result (List Field × TableState) HpackFault
 block_of table bytes = fields_in (length bytes + 1) bytes table true 65536 0

@@ -2,7 +2,7 @@
 use Rattle.std.specs.Prelude.{ℕ, ◌≡◌, ◌+◌, ◌-◌, ◌≤◌, nat_lt, List, [], ◌∷◌, length, if◌then◌else◌}
 use Rattle.ext_msgs.specs.declared.lists.Field.{Field}
 
-pub record State : Type 0 where
+pub record TableState : Type 0 where
   pub entries : List Field
   pub limit : ℕ
 
@@ -24,10 +24,10 @@ unfoldable pub cut : ℕ → List Field → List Field
 cut room [] = []
 cut room (e ∷ es) = if nat_lt room (size e) then [] else e ∷ cut (room - size e) es
 
-abbrev pub added : Field → State → State
+abbrev pub added : Field → TableState → TableState
 added f t = record { entries = cut t.limit (f ∷ t.entries); limit = t.limit }
 
-abbrev pub resized : ℕ → State → State
+abbrev pub resized : ℕ → TableState → TableState
 resized limit t = record { entries = cut limit t.entries; limit = limit }
 
 -- entries, their size and its limit

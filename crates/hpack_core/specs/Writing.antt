@@ -5,7 +5,7 @@ use Rattle.hpack_prim.specs.Integers.{int}
 use Rattle.hpack_prim.specs.Huffman.{words, IsHuff}
 use Rattle.ext_msgs.specs.declared.lists.Field.{Field}
 use Rattle.hpack_core.specs.Static.{static_table}
-use Rattle.hpack_core.specs.Tables.{State}
+use Rattle.hpack_core.specs.Tables.{TableState}
 
 -- the length of a Huffman string
 abbrev pub huff_size : List ℕ → ℕ
@@ -61,5 +61,5 @@ BlockWritten known limit fields bytes = (s : List ℕ) × FieldsWritten fields s
 
 -- What an encoder holds between blocks: the table that the peer knows, and the limit that its next block tells.
 pub record Writer : Type 0 where
-  pub table : State
+  pub table : TableState
   pub limit : ℕ

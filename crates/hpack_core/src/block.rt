@@ -2,9 +2,9 @@ ghost use Rattle.std.specs.Prelude.{◌≡◌, ◌+◌, ◌^◌, ◌<◌, ◌≤
 ghost use Rattle.std.specs.Prelude.{ℕ, List, Ok, true};
 ghost use Rattle.hpack_prim.specs.Integers.{AreBytes};
 ghost use Rattle.ext_msgs.specs.declared.lists.Field.{Field};
-ghost use Rattle.hpack_core.specs.Tables.{State, total};
+ghost use Rattle.hpack_core.specs.Tables.{TableState, total};
 ghost use Rattle.hpack_core.specs.Blocks.{Block};
-ghost use Rattle.hpack_core.specs.Reading.{Gives, name_at, literal_at, indexed_at, step, step_at, fields_in, block_of};
+ghost use Rattle.hpack_core.specs.Reading.{GivesValue, name_at, literal_at, indexed_at, step, step_at, fields_in, block_of};
 
 use crate::HpackFault;
 use crate::strings::string;
@@ -26,7 +26,7 @@ fn name(
 ) -> Result<(Blob, u32), HpackFault>
     requires short { length bytes.now < 2 ^ 31 }
     requires inside { next ≤ length bytes.now }
-    ensures exact { Gives (λ p. p) result (name_at table.now.entries bytes.now at index next) }
+    ensures exact { GivesValue (λ p. p) result (name_at table.now.entries bytes.now at index next) }
     ensures inside { IfOk result (λ p. (next ≤ p.1) × (p.1 ≤ length bytes.now)) }
 {
     if index == 0 {
@@ -48,7 +48,7 @@ fn literal(
     requires short { length bytes.now < 2 ^ 31 }
     requires low { 1 ≤ prefix }
     requires high { prefix ≤ 8 }
-    ensures exact { Gives (λ p. p) result (literal_at table.now.entries bytes.now at prefix) }
+    ensures exact { GivesValue (λ p. p) result (literal_at table.now.entries bytes.now at prefix) }
     ensures inside { IfOk result (λ p. (at < p.1) × (p.1 ≤ length bytes.now)) }
 {
     let (index, next) = read_int(bytes, at, prefix)?;
@@ -61,7 +61,7 @@ fn literal(
 #[tactic(auto, unfolding(crate::specs::Reading::indexed_at))]
 fn indexed(alloc: Global, table: &Table, bytes: &[u8], at: u32) -> Result<(Field, u32), HpackFault>
     requires { length bytes.now < 2 ^ 31 }
-    ensures exact { Gives (λ p. step (Some p.0) table.now p.1) result (indexed_at table.now bytes.now at) }
+    ensures exact { GivesValue (λ p. step (Some p.0) table.now p.1) result (indexed_at table.now bytes.now at) }
     ensures inside { IfOk result (λ p. (at < p.1) × (p.1 ≤ length bytes.now)) }
 {
     let (index, next) = read_int(bytes, at, 7)?;
@@ -80,7 +80,7 @@ fn representation(
 ) -> Result<(Option<Field>, u32), HpackFault>
     requires short { length bytes.now < 2 ^ 31 }
     requires there { at < length bytes.now }
-    ensures exact { Gives (λ p. step p.0 table.new p.1) result (step_at table.old first bytes.now at) }
+    ensures exact { GivesValue (λ p. step p.0 table.new p.1) result (step_at table.old first bytes.now at) }
     ensures inside { IfOk result (λ p. (at < p.1) × (p.1 ≤ length bytes.now)) }
 {
     let form = bytes[at as usize];
@@ -113,7 +113,7 @@ pub(crate) fn fields(
     bytes: &[u8],
 ) -> Result<FieldList, HpackFault>
     requires { length bytes.now < 2 ^ 31 }
-    ensures { Gives (λ l. (l, table.new)) result (block_of table.old bytes.now) }
+    ensures { GivesValue (λ l. (l, table.new)) result (block_of table.old bytes.now) }
 {
     let mut list = FieldList::new(alloc);
     let mut room = 65536u64;

@@ -2,7 +2,7 @@
 
 ghost use Rattle.std.specs.Prelude.{◌≡◌, ◌^◌, ◌<◌, ◌≤◌, [], length, Some, None, Err, IfErr, OnOk, OnErr, IfOk, Option};
 ghost use Rattle.hpack_core.specs.Tables.{kept};
-ghost use Rattle.hpack_core.specs.Reading.{Gives, block_of};
+ghost use Rattle.hpack_core.specs.Reading.{GivesValue, block_of};
 ghost use Rattle.hpack_core.specs.declared.fault.HpackFault.{HpackFault};
 
 use crate::HpackFault;
@@ -46,7 +46,7 @@ impl Decoder {
     /// the bytes of name and value and 32. After a fault, out of memory among them, each later call answers the same.
     pub fn block(&mut self, bytes: &[u8]) -> Result<FieldList, HpackFault>
         requires { length bytes.now < 2 ^ 31 }
-        ensures exact { self.old.fault ≡ None → Gives (λ l. (l, self.new.table)) result (block_of self.old.table bytes.now) }
+        ensures exact { self.old.fault ≡ None → GivesValue (λ l. (l, self.new.table)) result (block_of self.old.table bytes.now) }
         ensures again { (fault : HpackFault) → self.old.fault ≡ Some fault → result ≡ Err fault }
         ensures fault { IfErr result (λ e. self.new.fault ≡ Some e) }
         ensures ok { OnOk result (self.new.fault ≡ None) }

@@ -12,8 +12,6 @@ mod laws;
 mod static_table;
 mod strings;
 mod table;
-#[cfg(test)]
-mod tests;
 mod writing;
 
 pub use decoder::Decoder;

@@ -1,6 +1,6 @@
 ghost use Rattle.std.specs.Prelude.{◌≡◌, ◌+◌, ◌*◌, ◌^◌, ◌<◌, ◌≤◌, length, take, drop, true, IfOk};
 ghost use Rattle.hpack_prim.specs.Huffman.{place_of};
-ghost use Rattle.hpack_core.specs.Reading.{Gives, string_of, string_at, from_place, placed};
+ghost use Rattle.hpack_core.specs.Reading.{GivesValue, string_of, string_at, from_place, placed};
 
 use crate::HpackFault;
 use hpack_prim::{PrimFault, huff_decode, read_int};
@@ -24,7 +24,7 @@ fn placed_fault(at: u32, fault: PrimFault) -> PrimFault
 #[tactic(auto, unfolding(crate::specs::Reading::string_of))]
 fn huffman(alloc: Global, at: u32, raw: &[u8]) -> Result<Vec<u8>, HpackFault>
     requires { at + length raw.now < 2 ^ 31 }
-    ensures { Gives (λ v. v.items) result (string_of true at raw.now) }
+    ensures { GivesValue (λ v. v.items) result (string_of true at raw.now) }
 {
     let mut out = Vec::new(alloc);
     out.resize(2 * raw.len(), 0u8)?;
@@ -41,7 +41,7 @@ fn huffman(alloc: Global, at: u32, raw: &[u8]) -> Result<Vec<u8>, HpackFault>
 #[tactic(auto, unfolding(crate::specs::Reading::string_at, crate::specs::Reading::string_of))]
 pub(crate) fn string(alloc: Global, bytes: &[u8], at: u32) -> Result<(Blob, u32), HpackFault>
     requires short { length bytes.now < 2 ^ 31 }
-    ensures exact { Gives (λ p. p) result (string_at bytes.now at) }
+    ensures exact { GivesValue (λ p. p) result (string_at bytes.now at) }
     ensures inside { IfOk result (λ p. (at < p.1) × (p.1 ≤ length bytes.now)) }
 {
     let (len, start) = read_int(bytes, at, 7)?;

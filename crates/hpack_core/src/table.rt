@@ -2,7 +2,7 @@
 
 ghost use Rattle.std.specs.Prelude.{◌≡◌, ◌+◌, ◌^◌, ◌<◌, ◌≤◌, [], MatchOption, OnOk, OnErr};
 ghost use Rattle.hpack_core.specs.Tables.{size, total, kept, cut, added, resized};
-ghost use Rattle.hpack_core.specs.Reading.{Gives, entry_at};
+ghost use Rattle.hpack_core.specs.Reading.{GivesValue, entry_at};
 
 use crate::HpackFault;
 use crate::static_table::static_at;
@@ -24,9 +24,9 @@ pub(crate) struct Table {
 }
 
 impl Model for Table {
-    ghost use Rattle.hpack_core.specs.Tables.{State, IsTable};
+    ghost use Rattle.hpack_core.specs.Tables.{TableState, IsTable};
 
-    ghost Value = { State };
+    ghost Value = { TableState };
 
     ghost view = { λ t. record { entries = t.entries.items; limit = t.limit } };
 
@@ -116,7 +116,7 @@ impl Table {
     // The entry of an index, named by the representation at a place: its own copy.
     #[tactic(auto, unfolding(crate::specs::Reading::entry_at))]
     pub(crate) fn entry(&self, alloc: Global, at: u32, index: u32) -> Result<Field, HpackFault>
-        ensures { Gives (λ f. f) result (entry_at self.now.entries at index) }
+        ensures { GivesValue (λ f. f) result (entry_at self.now.entries at index) }
     {
         if index == 0 {
             return Err(HpackFault::Index(at));

@@ -1,6 +1,6 @@
 -- Bits written one by one.
 use Rattle.std.proofs.Common.{◌≡◌, ℕ, zero, suc, ◌+◌, ◌-◌, ◌*◌, ◌/◌, ◌%◌, ◌^◌, ◌<◌, ◌≤◌, Bool, true, ◌&&◌, nat_le, nat_lt, List, [], ◌∷◌, ◌++◌, length, take, drop, set, get_or, replicate, length-append, refl, ap, ap₂, sym, ◌∙◌, arith, append_assoc, append-nil, lit<, add-one}
-use Rattle.std.proofs.Math.Nat.{pow-le-pow_right, mul-le-mul_left, mod-lt}
+use Rattle.std.proofs.Math.Nat.{pow-le-pow_right}
 use Rattle.std.proofs.lemmas.Nat.{shr-shr}
 use Rattle.std.proofs.lemmas.List.{take_more_set, drop-set-lt, drop-drop, drop_more, drop_all, replicate_more}
 use borrow.Author.Tests.{leb-true, ltb-true}
@@ -9,7 +9,7 @@ use Rattle.std.specs.Str.{bytes_eq}
 use Rattle.std.proofs.lemmas.Slice.Eq.{bytes_eq-Decides}
 use Rattle.hpack_prim.specs.Huffman.{bits, bits_of, rows, word_in, word, words, is_padding, IsHuff}
 use Rattle.hpack_prim.specs.Encoding.{spelled, IsPending, code, len}
-use Rattle.std.proofs.lemmas.Nat.{div-mul-add, pow_pos}
+use Rattle.std.proofs.lemmas.Nat.{div-mul-add}
 use Rattle.hpack_prim.proofs.Windows.{bits_split, bits_low, bits_mod}
 use Rattle.hpack_prim.proofs.Codes.{below, both}
 use Rattle.hpack_prim.proofs.BitLemmas.{length_bits, bits_of-append, one_byte}
@@ -69,16 +69,7 @@ word_long_is s less = ap length (word_is s less).0 ∙ length_bits (len s) (code
 pub behind_byte : (xs ys : List ℕ) (i x : ℕ) → drop i xs ≡ drop i ys → drop (i + 1) (set xs i x) ≡ drop (i + 1) ys
 behind_byte xs ys i x e = drop-set-lt (i + 1) xs i x (omega arith) ∙ drop_later xs ys i (i + 1) (omega arith) e
 
-pub mod_less : (n k : ℕ) → n % 2 ^ k < 2 ^ k
-mod_less n k = mod-lt n (pow_pos k)
-
 -- the bits so far and a word, as one number
-pub number_small : (part len code : ℕ) → part < 128 → len ≤ 30 → code < 2 ^ len → part * 2 ^ len + code < 2 ^ 37
-number_small part len code small few less =
-    let e : 2 ^ len ≤ 2 ^ 30 = pow-le-pow_right {n = 2} (lit< tt) {i = len} {j = 30} few in
-    let m : part * 2 ^ len ≤ part * 2 ^ 30 = mul-le-mul_left part e in
-    omega (arith, small)
-
 pub word_joins : (held part len code : ℕ) → code < 2 ^ len → bits (held + len) (part * 2 ^ len + code) ≡ bits held part ++ bits len code
 word_joins held part len code less = bits_split held len (part * 2 ^ len + code) ∙ ap₂ ◌++◌ (ap (bits held) (div-mul-add part (2 ^ len) code less)) (bits_low len part code)
 
@@ -92,11 +83,11 @@ byte_written out written held left number whole sum room e =
     ap (λ (v : List ℕ). v ++ bits left number) (ap bits_of (take_more_set out written byte room) ∙ bits_of-append (take written out) (byte ∷ []) ∙ ap (λ (v : List ℕ). bits_of (take written out) ++ v) (one_byte byte))
     ∙ append_assoc (bits_of (take written out)) (bits 8 byte) (bits left number) ∙ ap (λ (v : List ℕ). bits_of (take written out) ++ v) (sym split) ∙ e
 
-words-cons : (s : ℕ) (ss : List ℕ) → words (s ∷ ss) ≡ word s ++ words ss
+pub words-cons : (s : ℕ) (ss : List ℕ) → words (s ∷ ss) ≡ word s ++ words ss
 unfolding words
 words-cons s ss = refl
 
-words-nil : words [] ≡ []
+pub words-nil : words [] ≡ []
 unfolding words
 words-nil = refl
 

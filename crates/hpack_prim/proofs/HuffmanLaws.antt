@@ -10,18 +10,11 @@ use Rattle.hpack_prim.proofs.Codes.{word_long, both, below}
 use Rattle.hpack_prim.proofs.Walks.{IsBits, symbol_found, walk_finds, none_there}
 use Rattle.hpack_prim.proofs.BitLemmas.{IsBits-bits_of}
 use Rattle.hpack_prim.proofs.Decodings.{symbols_eos, symbols_none, symbols_rest, symbols_more, joined_nil, joined_twice}
+use Rattle.hpack_prim.proofs.EncodeLemmas.{words-cons, words-nil}
 
 IsBits-right : (xs ys : List ℕ) → IsBits (xs ++ ys) → IsBits ys
 IsBits-right [] ys a = a
 IsBits-right (x ∷ xs) ys a = IsBits-right xs ys a.1
-
-words-cons : (s : ℕ) (ss : List ℕ) → words (s ∷ ss) ≡ word s ++ words ss
-unfolding words
-words-cons s ss = refl
-
-words-nil : words [] ≡ []
-unfolding words
-words-nil = refl
 
 -- words of symbols, and what is behind them
 pub record Split (bs ss rest : List ℕ) : Type 0 where

@@ -4,7 +4,7 @@ use borrow.Author.Tests.{ltb-true, ltb-false}
 use Rattle.std.proofs.lemmas.Nat.{pow_pos, mod_below}
 use Rattle.hpack_prim.specs.declared.fault.PrimFault.{PrimFault}
 use Rattle.hpack_prim.specs.declared.fault.PrimFault.TheVariants.{TooLarge}
-use Rattle.hpack_prim.proofs.IntegerLemmas.{groups_more, shortest_last, shortest_more, int_last, int_more, five}
+use Rattle.hpack_prim.proofs.IntegerLemmas.{groups_more, shortest_last, shortest_more, int_last, int_more, five, below_or_not}
 use Rattle.hpack_prim.specs.Integers.{IsGroups, IsInt, AreBytes, Spelled, groups_at, int_at, shortest, int}
 
 -- what a reading of groups found: their spelling, and what is behind it
@@ -154,9 +154,6 @@ int_only prefix at (b ∷ c ∷ s) rest n i =
 small_or_not : (n : ℕ) → (n < 128) ⊎ (128 ≤ n)
 small_or_not n = grind arith
 
-full_or_not : (n m : ℕ) → (n < m) ⊎ (m ≤ n)
-full_or_not n m = grind arith
-
 shortest_is : (k n : ℕ) → n ≤ k → IsGroups (shortest n) n
 shortest_is zero n le = subst (λ (s : List ℕ). IsGroups s n) (sym (shortest_last n (omega arith))) (omega arith, refl)
 shortest_is (suc k) n le = elim (small_or_not n) [
@@ -181,7 +178,7 @@ low_bits (suc (suc (suc (suc (suc (suc (suc (suc (suc prefix))))))))) first n lo
 pub int_is : (prefix first n : ℕ) → 1 ≤ prefix → prefix ≤ 8 → first % 2 ^ prefix ≡ 0 → n < 2 ^ 32 → IsInt prefix (int prefix first n) n
 int_is prefix first n low high free fits =
     let p : ℕ = 2 ^ prefix in let some = pow_pos prefix in
-    elim (full_or_not (n + 1) p) [
+    elim (below_or_not (n + 1) p) [
       | inl small ↦ let m = low_bits prefix first n low high free (omega arith) in
           subst (λ (s : List ℕ). IsInt prefix s n) (sym (int_last prefix first n (p - 1) (omega arith) (omega arith))) ((let h : (first + n) % p + 1 < p = omega arith in h), sym m)
       | inr large ↦ let m = low_bits prefix first (p - 1) low high free (omega arith) in

@@ -13,7 +13,7 @@ pub groups_step : (k n : ℕ) → 128 ≤ n → groups (suc k) n ≡ (n % 128 + 
 unfolding groups
 groups_step k n large = rw (le-ltb n 128 large, groups) refl
 
-below_or_not : (n m : ℕ) → (n < m) ⊎ (m ≤ n)
+pub below_or_not : (n m : ℕ) → (n < m) ⊎ (m ≤ n)
 below_or_not n m = grind arith
 
 pub groups_same : (k j n : ℕ) → n ≤ k → n ≤ j → groups k n ≡ groups j n

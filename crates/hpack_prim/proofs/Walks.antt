@@ -36,7 +36,7 @@ pub record On (c : ℕ) (cs : List ℕ) (rank gap b : ℕ) (u : List ℕ) (k : �
   pub more : c ≤ 2 * gap + b
   pub walked : walk cs (rank + c) (2 * gap + b - c) u ≡ Some (k, r)
 
-abbrev rank_in : Option (ℕ × List ℕ) → ℕ
+abbrev pub rank_in : Option (ℕ × List ℕ) → ℕ
 rank_in None = 0
 rank_in (Some p) = p.0
 

@@ -4,8 +4,8 @@ use Rattle.std.proofs.lemmas.Nat.{pow_pos, shr-shr, div-mul-add, div-add-mod'}
 use Rattle.std.proofs.Math.Nat.{mul-add-div_right, pow-suc}
 use Rattle.std.proofs.lemmas.List.{drop-append-le, drop-drop, drop_at, drop_all, take_at, take-append-le, take-append-drop, get_or-drop}
 use Rattle.hpack_prim.specs.Huffman.{bits, bits_of, word, symbol_at}
-use Rattle.hpack_prim.specs.Decoding.{Begins, Holds}
-use Rattle.hpack_prim.proofs.Walks.{IsBits, symbol_found, symbol_more, walk_finds}
+use Rattle.hpack_prim.specs.Decoding.{Begins, HoldsBits}
+use Rattle.hpack_prim.proofs.Walks.{IsBits, symbol_found, symbol_more, walk_finds, rank_in}
 use Rattle.hpack_prim.proofs.BitLemmas.{length_bits, length_bits_of, drop_bits, bits_of-append, one_byte, IsBits-bits, IsBits-bits_of, IsBits-drop}
 
 -- the high bits of a number, and the others
@@ -103,7 +103,7 @@ drop_bytes (b ∷ bytes) (suc i) =
     rw e (sym (drop-drop (8 * i) 8 (bits 8 b ++ bits_of bytes)) ∙ ap (drop (8 * i)) (drop_at (bits 8 b) (bits_of bytes) 8 (length_bits 8 b)) ∙ drop_bytes bytes i)
 
 -- eight bytes hold the bits at a place
-holds_from : (bytes : List ℕ) (start r n held : ℕ) → r + held ≡ 64 → 8 * start + r ≤ 8 * length bytes → r < 8 → bits 64 n ≡ bits_of (front (drop start bytes)) → Holds bytes (8 * start + r) n held
+holds_from : (bytes : List ℕ) (start r n held : ℕ) → r + held ≡ 64 → 8 * start + r ≤ 8 * length bytes → r < 8 → bits 64 n ≡ bits_of (front (drop start bytes)) → HoldsBits bytes (8 * start + r) n held
 holds_from bytes start r n held sum inside few e =
     let d : List ℕ = drop start bytes in
     let f = eight_front d in
@@ -119,18 +119,18 @@ holds_from bytes start r n held sum inside few e =
       whole = sym cut ∙ ap (drop r) (sym all) ∙ sym behind ∙ ap (λ (v : List ℕ). v ++ bits_of zeros) (sym here);
     }
 
-pub holds_at : (bytes : List ℕ) (at number held : ℕ) → at ≤ 8 * length bytes → ((i : ℕ) → get_or bytes i 0 < 256) → number ≡ four bytes (at / 8) * 2 ^ 32 + four bytes (at / 8 + 4) → held ≡ 64 - at % 8 → Holds bytes at number held
+pub holds_at : (bytes : List ℕ) (at number held : ℕ) → at ≤ 8 * length bytes → ((i : ℕ) → get_or bytes i 0 < 256) → number ≡ four bytes (at / 8) * 2 ^ 32 + four bytes (at / 8 + 4) → held ≡ 64 - at % 8 → HoldsBits bytes at number held
 holds_at bytes at number held inside less e h =
     let start = at / 8 in let r = at % 8 in
     let here : 8 * start + r ≡ at = omega arith in
-    subst (λ (k : ℕ). Holds bytes k number held) here (holds_from bytes start r number held (omega arith) (omega arith) (omega arith) (ap (bits 64) e ∙ eight_is bytes start less ∙ ap bits_of (same_front bytes start)))
+    subst (λ (k : ℕ). HoldsBits bytes k number held) here (holds_from bytes start r number held (omega arith) (omega arith) (omega arith) (ap (bits 64) e ∙ eight_is bytes start less ∙ ap bits_of (same_front bytes start)))
 
-pub holds_none : (bytes : List ℕ) → Holds bytes 0 0 0
+pub holds_none : (bytes : List ℕ) → HoldsBits bytes 0 0 0
 unfolding bits
 holds_none bytes = record { tail = []; more = bits_of bytes ++ []; whole = refl }
 
 -- the bits behind a code
-pub holds_next : (bytes : List ℕ) (at number held len : ℕ) → Holds bytes at number held → len ≤ held → at + len ≤ 8 * length bytes → Holds bytes (at + len) number (held - len)
+pub holds_next : (bytes : List ℕ) (at number held len : ℕ) → HoldsBits bytes at number held → len ≤ held → at + len ≤ 8 * length bytes → HoldsBits bytes (at + len) number (held - len)
 holds_next bytes at number held len w few inside =
     let k = length_bits held number in let l = length-drop at (bits_of bytes) in let m = length_bits_of bytes in
     record {
@@ -141,7 +141,7 @@ holds_next bytes at number held len w few inside =
     }
 
 -- the first 30 of the bits
-pub holds_front : (bytes : List ℕ) (at number held front : ℕ) → Holds bytes at number held → 30 ≤ held → front ≡ number / 2 ^ (held - 30) % 2 ^ 30 → Holds bytes at front 30
+pub holds_front : (bytes : List ℕ) (at number held front : ℕ) → HoldsBits bytes at number held → 30 ≤ held → front ≡ number / 2 ^ (held - 30) % 2 ^ 30 → HoldsBits bytes at front 30
 holds_front bytes at number held front w many e =
     let j : ℕ = held - 30 in
     let s : held ≡ 30 + j = omega arith in
@@ -158,7 +158,7 @@ code_long window len s b =
     (f.word_is, omega (arith, b.fits), f.symbol)
 
 -- the window has a code that lies within the bits
-pub symbol_there : (bytes : List ℕ) (at window len s : ℕ) → Holds bytes at window 30 → Begins (bits 30 window) len s → at + len ≤ 8 * length bytes → symbol_at (drop at (bits_of bytes)) ≡ Some (s, drop (at + len) (bits_of bytes))
+pub symbol_there : (bytes : List ℕ) (at window len s : ℕ) → HoldsBits bytes at window 30 → Begins (bits 30 window) len s → at + len ≤ 8 * length bytes → symbol_at (drop at (bits_of bytes)) ≡ Some (s, drop (at + len) (bits_of bytes))
 symbol_there bytes at window len s w b inside =
     let xs : List ℕ = drop at (bits_of bytes) in
     let c = code_long window len s b in
@@ -168,12 +168,8 @@ symbol_there bytes at window len s w b inside =
     let whole : xs ≡ word s ++ drop len xs = sym (take-append-drop len xs) ∙ ap (λ (v : List ℕ). v ++ drop len xs) (sym front) in
     walk_finds xs s (drop len xs) c.2 whole ∙ ap (λ (v : List ℕ). Some (s, v)) (drop-drop len at (bits_of bytes))
 
-abbrev symbol_in : Option (ℕ × List ℕ) → ℕ
-symbol_in None = 0
-symbol_in (Some p) = p.0
-
 same_symbol : (bs : List ℕ) (t s : ℕ) (q r : List ℕ) → symbol_at bs ≡ Some (t, q) → symbol_at bs ≡ Some (s, r) → t ≡ s
-same_symbol bs t s q r e f = ap symbol_in (sym e ∙ f)
+same_symbol bs t s q r e f = ap rank_in (sym e ∙ f)
 
 -- a code of these bits would end where the window's code does
 no_symbol : (xs tail : List ℕ) (len s : ℕ) (r : List ℕ) (w : Option (ℕ × List ℕ)) → IsBits xs → symbol_at (xs ++ tail) ≡ Some (s, r) → length (word s) ≡ len → length xs < len → symbol_at xs ≡ w → symbol_at xs ≡ None
@@ -186,7 +182,7 @@ no_symbol xs tail len s r (Some (t, q)) x e l short f =
     absurd (omega (arith, m, k, short))
 
 -- the window has a code that goes on behind the bits
-pub symbol_missing : (bytes : List ℕ) (at window len s : ℕ) → Holds bytes at window 30 → Begins (bits 30 window) len s → at ≤ 8 * length bytes → 8 * length bytes < at + len → symbol_at (drop at (bits_of bytes)) ≡ None
+pub symbol_missing : (bytes : List ℕ) (at window len s : ℕ) → HoldsBits bytes at window 30 → Begins (bits 30 window) len s → at ≤ 8 * length bytes → 8 * length bytes < at + len → symbol_at (drop at (bits_of bytes)) ≡ None
 symbol_missing bytes at window len s w b inside past =
     let xs : List ℕ = drop at (bits_of bytes) in
     let c = code_long window len s b in

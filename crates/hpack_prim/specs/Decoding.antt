@@ -30,7 +30,7 @@ pub record Begins (bs : List ℕ) (len symbol : ℕ) : Type 0 where
   pub is : symbol_at bs ≡ Some (symbol, drop len bs)
 
 -- the lowest bits of a number, so many, are those at a place, with any bits behind the last
-pub record Holds (bytes : List ℕ) (at number held : ℕ) : Type 0 where
+pub record HoldsBits (bytes : List ℕ) (at number held : ℕ) : Type 0 where
   pub tail : List ℕ
   pub more : List ℕ
   pub whole : bits held number ++ more ≡ drop at (bits_of bytes) ++ tail

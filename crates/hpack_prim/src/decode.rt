@@ -3,7 +3,7 @@
 ghost use Rattle.std.specs.Prelude.{◌≡◌, ◌/◌, ◌%◌, ◌∷◌, [], ◌+◌, ◌-◌, ◌*◌, ◌^◌, ◌<◌, ◌≤◌, length, take, drop, Some, None, Ok, Err, MatchOption, MatchResult, IfSome, IfOk, IfErr};
 ghost use Rattle.std.proofs.Common.{get_or};
 ghost use Rattle.hpack_prim.specs.Huffman.{bits, bits_of, symbol_at, is_padding, huff_of, place_of};
-ghost use Rattle.hpack_prim.specs.Decoding.{Begins, Holds, entry_8, entry_15, entry_22, entry_24, entry_28, entry_30};
+ghost use Rattle.hpack_prim.specs.Decoding.{Begins, HoldsBits, entry_8, entry_15, entry_22, entry_24, entry_28, entry_30};
 
 use crate::PrimFault;
 use crate::decode_table::{
@@ -148,7 +148,7 @@ fn number_at(bytes: &[u8], start: usize) -> u32
 fn take_bits(bytes: &[u8], at: u64) -> Taken
     requires short { length bytes.now < 2 ^ 32 }
     requires inside { at ≤ 8 * length bytes.now }
-    ensures bits { Holds bytes.now at result.number result.held }
+    ensures bits { HoldsBits bytes.now at result.number result.held }
     ensures many { 30 ≤ result.held }
     ensures most { result.held ≤ 64 }
 {
@@ -174,9 +174,9 @@ fn front_of(taken: Taken) -> u32
 fn enough_bits(bytes: &[u8], at: u64, taken: Taken) -> Taken
     requires short { length bytes.now < 2 ^ 32 }
     requires inside { at ≤ 8 * length bytes.now }
-    requires bits { Holds bytes.now at taken.number taken.held }
+    requires bits { HoldsBits bytes.now at taken.number taken.held }
     requires most { taken.held ≤ 64 }
-    ensures bits { Holds bytes.now at result.number result.held }
+    ensures bits { HoldsBits bytes.now at result.number result.held }
     ensures many { 30 ≤ result.held }
     ensures most { result.held ≤ 64 }
 {
@@ -190,11 +190,11 @@ fn enough_bits(bytes: &[u8], at: u64, taken: Taken) -> Taken
 fn next_symbol(bytes: &[u8], at: u64, taken: Taken) -> Option<(u16, u64, Taken)>
     requires short { length bytes.now < 2 ^ 32 }
     requires inside { at ≤ 8 * length bytes.now }
-    requires bits { Holds bytes.now at taken.number taken.held }
+    requires bits { HoldsBits bytes.now at taken.number taken.held }
     requires most { taken.held ≤ 64 }
     ensures symbol { MatchOption result (symbol_at (drop at (bits_of bytes.now)) ≡ None) (λ p. symbol_at (drop at (bits_of bytes.now)) ≡ Some (p.0, drop p.1 (bits_of bytes.now))) }
     ensures inside { IfSome result (λ p. p.1 ≤ 8 * length bytes.now) }
-    ensures bits { IfSome result (λ p. Holds bytes.now p.1 p.2.number p.2.held) }
+    ensures bits { IfSome result (λ p. HoldsBits bytes.now p.1 p.2.number p.2.held) }
     ensures most { IfSome result (λ p. p.2.held ≤ 64) }
 {
     let taken = enough_bits(bytes, at, taken);

@@ -3,7 +3,7 @@
 use thiserror::Error;
 
 /// Why bytes are no integer or no Huffman string. Places count from the first byte that was given.
-#[derive(Clone, Copy, Debug, PartialEq, Eq, Error)]
+#[derive(Clone, Copy, Debug, Error)]
 pub enum PrimFault {
     /// A byte is missing at this place.
     #[error("a byte is missing at {0}")]

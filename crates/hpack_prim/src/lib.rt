@@ -10,8 +10,6 @@ mod encode_table;
 mod fault;
 mod integer;
 mod laws;
-#[cfg(test)]
-mod tests;
 
 pub use decode::huff_decode;
 pub use encode::{huff_encode, huff_len};

@@ -3,7 +3,7 @@
 use thiserror::Error;
 
 /// What is wrong with a record.
-#[derive(Clone, Copy, Debug, PartialEq, Eq)]
+#[derive(Clone, Copy)]
 pub enum Cause {
     /// The input ends within the record.
     Truncated,
@@ -16,7 +16,7 @@ pub enum Cause {
 }
 
 /// What is wrong with a record, and the place of the record's first byte.
-#[derive(Clone, Copy, Debug, PartialEq, Eq, Error)]
+#[derive(Clone, Copy, Debug, Error)]
 pub enum WireFault {
     /// The input ends within the record.
     #[error("the record at {0} is cut off")]

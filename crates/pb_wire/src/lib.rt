@@ -6,8 +6,6 @@ mod fault;
 mod items;
 mod laws;
 mod reader;
-#[cfg(test)]
-mod tests;
 mod varint;
 mod writer;
 

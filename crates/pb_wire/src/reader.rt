@@ -10,7 +10,7 @@ use crate::varint::varint;
 use std::marker::Model;
 
 /// What stands behind a tag.
-#[derive(Clone, Copy, Debug, PartialEq, Eq)]
+#[derive(Clone, Copy)]
 pub enum Payload {
     /// Type 0.
     Varint(u64),
@@ -23,7 +23,7 @@ pub enum Payload {
 }
 
 /// One record: the place of its first byte, the field's number, and its payload.
-#[derive(Clone, Copy, Debug, PartialEq, Eq)]
+#[derive(Clone, Copy)]
 pub struct Record {
     pub place: u32,
     pub number: u32,

@@ -3,8 +3,6 @@
 
 mod pieces;
 mod queue;
-#[cfg(test)]
-mod tests;
 
 pub use pieces::Pieces;
 pub use queue::{ByteQueue, Full};

@@ -8,7 +8,7 @@ use std::collections::VecDeque;
 use std::marker::Model;
 
 /// A first in, first out list of pieces. Contracts see the list.
-#[derive(Debug, Drop)]
+#[derive(Drop)]
 pub struct Pieces {
     pieces: VecDeque<Blob>,
 }

@@ -7,14 +7,14 @@ use std::alloc::{AllocError, Global};
 use std::marker::Model;
 
 /// The queue has no room for the piece.
-#[derive(Clone, Copy, Debug, PartialEq, Eq)]
+#[derive(Clone, Copy)]
 pub struct Full;
 
 /// A first in, first out queue of bytes, of which it holds no more than its limit.
 ///
 /// Only the constructor takes memory. Each byte is moved a bounded number of times, also where the front is dropped byte by
 /// byte: the room is for twice the limit, so the bytes are moved to the room's beginning only after as many were dropped.
-#[derive(Debug, Drop)]
+#[derive(Drop)]
 pub struct ByteQueue {
     items: Vec<u8>,
     // Where the bytes begin that weren't dropped.

@@ -1,7 +1,7 @@
 use Rattle.std.proofs.Common.{sym, ◌∙◌, ap}
 use Rattle.h2_model.specs.StreamFaults.{with_stream, block_rows}
 use Rattle.h2_session.proofs.Judged.{its-stream, no-stream, on-live, not-live}
-use Rattle.h2_model.proofs.Lives.{found}
+use Rattle.h2_model.specs.State.{found}
 use Rattle.h2_session.proofs.judging.fault_of_block.Goals as goal
 
 pub returns-in-Some : goal.returns-in-Some

@@ -1,6 +1,6 @@
 use Rattle.std.proofs.Common.{◌∙◌, ℕ, ◌+◌, ◌≤◌, ◌-◌, Some, ap, sym, arith, drop, subst}
 use Rattle.hpack_prim.specs.Huffman.{bits_of}
-use Rattle.hpack_prim.specs.Decoding.{Holds}
+use Rattle.hpack_prim.specs.Decoding.{HoldsBits}
 use Rattle.hpack_prim.proofs.BitLemmas.{length_bits}
 use Rattle.hpack_prim.proofs.Windows.{symbol_there, symbol_missing, holds_front, holds_next}
 use Rattle.hpack_prim.proofs.decode.next_symbol.Goals as goal
@@ -22,5 +22,5 @@ overflow_sub-left c = omega (arith, c.first_code-len.ensures.fits, length_bits 3
 pub returns-clause-bits : goal.returns-clause-bits
 returns-clause-bits c =
     let few : c.first_code-len.result.0 ≤ c.enough_bits-taken.result.held = omega (arith, c.first_code-len.ensures.fits, length_bits 30 c.front_of.result, c.enough_bits-taken.ensures.many) in
-    subst (λ (k : ℕ). Holds c.args.bytes.now (c.args.at + k) c.enough_bits-taken.result.number (c.enough_bits-taken.result.held - c.first_code-len.result.0)) (sym c.from.ensures)
+    subst (λ (k : ℕ). HoldsBits c.args.bytes.now (c.args.at + k) c.enough_bits-taken.result.number (c.enough_bits-taken.result.held - c.first_code-len.result.0)) (sym c.from.ensures)
     (holds_next c.args.bytes.now c.args.at c.enough_bits-taken.result.number c.enough_bits-taken.result.held c.first_code-len.result.0 c.enough_bits-taken.ensures.bits few (omega (arith, c.if-next-bytes.false, c.from.ensures)))

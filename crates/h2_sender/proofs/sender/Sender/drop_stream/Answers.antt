@@ -1,7 +1,7 @@
 -- What is dropped gives its part of the window back.
 use Rattle.std.proofs.Common.{arith, ◌≡◌, ◌≤◌, ◌+◌, ◌-◌, ◌^◌, ℕ, List, not, ap, ◌∙◌, ℤ, pos, ◌+ℤ◌, ◌≤ℤ◌}
 use Rattle.std.proofs.lemmas.Int.{ints}
-use Rattle.h2_model.specs.Log.{Entry}
+use Rattle.h2_model.specs.Log.{LogEntry}
 use Rattle.h2_model.specs.Moves.{kept_waiting, kept_held, is_dropped}
 use Rattle.h2_model.specs.Queue.{Waiting, queued}
 use Rattle.h2_model.specs.Windows.{held_data}
@@ -13,7 +13,7 @@ use Rattle.h2_sender.proofs.sender.Sender.drop_stream.Goals as goal
 pub held_data-self-inside-requires : goal.held_data-self-inside-requires
 held_data-self-inside-requires c =
     let waiting : List Waiting = c.self.inside.queue.frames in
-    let held : List Entry = c.self.inside.held.items in
+    let held : List LogEntry = c.self.inside.held.items in
     let window : ℤ = c.self.inside.window in
     let bounded : IsBounded waiting held window = c.self.invariant.1 in
     let low : pos 0 ≤ℤ window = bounded.low in
@@ -27,7 +27,7 @@ held_data-self-inside-requires c =
 pub overflow_sub-self : goal.overflow_sub-self
 overflow_sub-self c =
     let waiting : List Waiting = c.self.inside.queue.frames in
-    let held : List Entry = c.self.inside.held.items in
+    let held : List LogEntry = c.self.inside.held.items in
     let window : ℤ = c.self.inside.window in
     let bounded : IsBounded waiting held window = c.self.invariant.1 in
     let low : pos 0 ≤ℤ window = bounded.low in
@@ -43,7 +43,7 @@ overflow_sub-self c =
 pub invariant_of-self : goal.invariant_of-self
 invariant_of-self c =
     let waiting : List Waiting = c.self.inside.queue.frames in
-    let held : List Entry = c.self.inside.held.items in
+    let held : List LogEntry = c.self.inside.held.items in
     let window : ℤ = c.self.inside.window in
     let bounded : IsBounded waiting held window = c.self.invariant.1 in
     let low : pos 0 ≤ℤ window = bounded.low in

@@ -2,8 +2,8 @@
 use Rattle.std.proofs.Common.{arith, ◌≡◌, ◌≤◌, ◌+◌, ◌^◌, List, [], ◌∷◌, ◌++◌, not, sym, ap, ◌∙◌, ℤ, pos, ◌+ℤ◌, ◌≤ℤ◌}
 use Rattle.std.specs.List.{filter}
 use Rattle.std.proofs.lemmas.Int.{ints}
-use Rattle.h2_calls.proofs.Queues.{queued-entered}
-use Rattle.h2_model.specs.Log.{Entry}
+use Rattle.h2_laws_log.proofs.Queues.{queued-entered}
+use Rattle.h2_model.specs.Log.{LogEntry}
 use Rattle.h2_model.specs.Queue.{Waiting, is_free, entered, fresh, queued, data_in}
 use Rattle.h2_model.specs.Windows.{held_data}
 use Rattle.h2_sender.specs.Sending.{Sending, IsBounded, data_kept}
@@ -14,7 +14,7 @@ use Rattle.h2_sender.proofs.sender.Sender.fail.Goals as goal
 pub enter-requires-clause-bound : goal.enter-requires-clause-bound
 enter-requires-clause-bound c =
     let waiting : List Waiting = c.self.inside.queue.frames in
-    let held : List Entry = c.self.inside.held.items in
+    let held : List LogEntry = c.self.inside.held.items in
     let fits : data_kept waiting held ≤ 2 ^ 40 = c.self.invariant.1.«data» in
     let none = goaway_no_data c.args.goaway c.requires.goaway in
     let less : queued 0 c.drop_free.new.self.frames ≤ queued 0 waiting = rw c.drop_free.ensures.frames (queued-less (λ w. not (is_free w)) waiting) in
@@ -23,7 +23,7 @@ enter-requires-clause-bound c =
 pub invariant_of-self : goal.invariant_of-self
 invariant_of-self c =
     let waiting : List Waiting = c.self.inside.queue.frames in
-    let held : List Entry = c.self.inside.held.items in
+    let held : List LogEntry = c.self.inside.held.items in
     let window : ℤ = c.self.inside.window in
     let bounded : IsBounded waiting held window = c.self.invariant.1 in
     let low : pos 0 ≤ℤ window = bounded.low in

@@ -1,8 +1,8 @@
 -- DATA takes its length of the window.
 use Rattle.std.proofs.Common.{arith, ◌≡◌, ◌≤◌, ◌<◌, ◌+◌, ◌^◌, ℕ, List, [], ◌∷◌, ◌++◌, sym, subst, ℤ, pos, ◌+ℤ◌, ◌≤ℤ◌}
 use Rattle.std.proofs.lemmas.Int.{ints}
-use Rattle.h2_calls.proofs.Queues.{held-append}
-use Rattle.h2_model.specs.Log.{Entry}
+use Rattle.h2_laws_log.proofs.Queues.{held-append}
+use Rattle.h2_model.specs.Log.{LogEntry}
 use Rattle.h2_model.specs.Queue.{Waiting, data_in}
 use Rattle.h2_model.specs.Windows.{held_data}
 use Rattle.h2_sender.specs.Sending.{Sending, IsBounded, data_kept, entry_of}
@@ -13,14 +13,14 @@ use Rattle.h2_sender.proofs.sender.Sender.hold.Goals as goal
 pub invariant_of-self : goal.invariant_of-self
 invariant_of-self c =
     let waiting : List Waiting = c.self.inside.queue.frames in
-    let held : List Entry = c.self.inside.held.items in
+    let held : List LogEntry = c.self.inside.held.items in
     let window : ℤ = c.self.inside.window in
     let bounded : IsBounded waiting held window = c.self.invariant.1 in
     let low : pos 0 ≤ℤ window = bounded.low in
     let high : (window +ℤ pos (data_kept waiting held)) ≤ℤ pos (2 ^ 41) = bounded.high in
     let fits : data_kept waiting held ≤ 2 ^ 40 = bounded.«data» in
     let n : ℕ = data_in 0 c.args.frame in
-    let entry : Entry = entry_of c.args.owed c.args.frame in
+    let entry : LogEntry = entry_of c.args.owed c.args.frame in
     let next : c.push_reserved.new.self.items ≡ held ++ entry ∷ [] = c.push_reserved.ensures.items in
     let one : n ≡ held_data 0 (entry ∷ []) = data_is 0 c.args.owed c.args.frame (record { sendable = c.requires.sendable; handed = c.requires.handed }) in
     let more : held_data 0 c.push_reserved.new.self.items ≡ held_data 0 held + n = rw next (omega (arith, held-append 0 held (entry ∷ []))) in

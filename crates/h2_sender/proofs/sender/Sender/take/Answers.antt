@@ -1,7 +1,7 @@
 -- What goes out leaves less.
 use Rattle.std.proofs.Common.{arith, ◌≡◌, ◌≤◌, ◌^◌, List, ℤ, pos, ◌+ℤ◌, ◌≤ℤ◌}
 use Rattle.std.proofs.lemmas.Int.{ints}
-use Rattle.h2_model.specs.Log.{Entry}
+use Rattle.h2_model.specs.Log.{LogEntry}
 use Rattle.h2_model.specs.Queue.{Waiting, queued, behind}
 use Rattle.h2_sender.specs.Sending.{IsBounded, data_kept}
 use Rattle.h2_sender.proofs.Bounds.{bounded_less}
@@ -11,7 +11,7 @@ use Rattle.h2_sender.proofs.sender.Sender.take.Goals as goal
 pub invariant_of-self : goal.invariant_of-self
 invariant_of-self c =
     let waiting : List Waiting = c.self.inside.queue.frames in
-    let held : List Entry = c.self.inside.held.items in
+    let held : List LogEntry = c.self.inside.held.items in
     let window : ℤ = c.self.inside.window in
     let bounded : IsBounded waiting held window = c.self.invariant.1 in
     let low : pos 0 ≤ℤ window = bounded.low in

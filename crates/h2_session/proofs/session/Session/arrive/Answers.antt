@@ -1,8 +1,8 @@
 -- A frame that is a connection error ends the session, by a row before or behind its decoding; any other is accepted.
 use Rattle.std.proofs.Common.{sym, ◌∙◌, ap, subst, Some}
 use Rattle.h2_model.specs.History.{violated}
-use Rattle.h2_stands.specs.Arriving.{Breaks, IfCode}
-use Rattle.h2_stands.specs.StandsFor.{Holds}
+use Rattle.h2_laws_kept.specs.Arriving.{Breaks, IfCode}
+use Rattle.h2_laws_kept.specs.StandsFor.{Holds}
 use Rattle.h2_session.proofs.Accepted.{accepted, undecoded-breaks}
 use Rattle.h2_session.proofs.Arrived.{breaks, early-breaks}
 use Rattle.h2_session.proofs.Endings.{if-code}

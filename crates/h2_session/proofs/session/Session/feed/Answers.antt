@@ -3,9 +3,9 @@ use Rattle.std.proofs.Common.{◌∷◌, refl, sym, subst}
 use Rattle.std.proofs.lemmas.Result.{IfOk-weaker, IfErr-weaker}
 use Rattle.h2_model.specs.Calls.{IsFault, IsFed, now, used_bytes}
 use Rattle.h2_model.specs.History.{Feed}
-use Rattle.h2_stands.specs.Arriving.{IfCode}
-use Rattle.h2_stands.specs.StandsFor.{StandsFor}
-use Rattle.h2_session.specs.Feeding.{Told, Refuses}
+use Rattle.h2_laws_kept.specs.Arriving.{IfCode}
+use Rattle.h2_laws_kept.specs.StandsFor.{StandsFor}
+use Rattle.h2_session.specs.Feeding.{Told, RefusesBytes}
 use Rattle.h2_session.proofs.Answers.{refused-again, stays-refused, told-first, stays-told, begins, goes-on, fault-of, fault-stands, then-kept}
 use Rattle.h2_session.proofs.Reading.{handed-on}
 use Rattle.h2_session.proofs.session.Session.feed.Goals as goal
@@ -63,7 +63,7 @@ returns-clause-fault c r h s =
     let held = subst (λ x. StandsFor r x h) (sym c.self.view_is) s in
     let e = c.in_default-refused.ensures in
     let b = begins r _ h held c.args.bytes.now _ _ refl e.rest c.in_default.is e.items in
-    IfErr-weaker c.read.result (IfCode (Refuses c.read.new.self (now r h) c.args.bytes.now)) (IsFault (now r h) c.args.bytes.now)
+    IfErr-weaker c.read.result (IfCode (RefusesBytes c.read.new.self (now r h) c.args.bytes.now)) (IsFault (now r h) c.args.bytes.now)
     (fault-of c.read.new.self (now r h) c.args.bytes.now)
     (c.read.ensures.refuses (now r h) (c.in_ok-greeted.ensures.greets (now r h) b))
 
@@ -83,7 +83,7 @@ returns-clause-refused c r h s =
     let held = subst (λ x. StandsFor r x h) (sym c.self.view_is) s in
     let e = c.in_default-refused.ensures in
     let b = begins r _ h held c.args.bytes.now _ _ refl e.rest c.in_default.is e.items in
-    IfErr-weaker c.read.result (IfCode (Refuses c.read.new.self (now r h) c.args.bytes.now))
+    IfErr-weaker c.read.result (IfCode (RefusesBytes c.read.new.self (now r h) c.args.bytes.now))
     (IfCode (λ code. StandsFor r c.read.new.self (Feed (used_bytes c.args.bytes.now (now r h)) ∷ h)))
     (fault-stands r _ h held c.args.bytes.now _ _ refl e.rest c.read.new.self
     (then-kept c.in_ok-greeted.ensures.role c.read.ensures.role))

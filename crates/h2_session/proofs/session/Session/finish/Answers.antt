@@ -4,9 +4,9 @@ use Rattle.h2_frames.specs.declared.frame.Frame.TheVariants as frame
 use Rattle.h2_model.specs.Calls.{now}
 use Rattle.h2_model.specs.Moves.{handing}
 use Rattle.h2_session.proofs.Standing.{asked-open, capacity-itself, finish-stands, same-itself}
-use Rattle.h2_stands.specs.Kept.{Kept, lacks_head}
-use Rattle.h2_stands.proofs.Finishes.{open-here-live}
-use Rattle.h2_stands.proofs.Handing.{held-room-there, room-there}
+use Rattle.h2_laws_kept.specs.Kept.{Kept, lacks_head}
+use Rattle.h2_laws_kept.proofs.Finishes.{open-here-live}
+use Rattle.h2_laws_kept.proofs.Handing.{held-room-there, room-there}
 use Rattle.h2_session.proofs.session.Session.finish.Goals as goal
 
 pub returns-then-is_some : goal.returns-then-is_some

@@ -1,6 +1,6 @@
 -- What the sender drops and adds.
 use Rattle.std.proofs.Common.{refl}
-use Rattle.h2_calls.specs.Calling.{failing}
+use Rattle.h2_laws_log.specs.Calling.{failing}
 use Rattle.h2_session.proofs.session.Session.go_away.Goals as goal
 
 pub returns-clause-state : goal.returns-clause-state

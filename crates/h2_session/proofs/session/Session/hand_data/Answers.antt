@@ -4,7 +4,7 @@ use Rattle.h2_frames.specs.declared.frame.Frame.TheVariants as frame
 use Rattle.h2_model.specs.Moves.{handing}
 use Rattle.h2_session.proofs.Parts.{data-held, data-queued}
 use Rattle.h2_session.specs.contracts.session.Session.{the_view}
-use Rattle.h2_stands.specs.Kept.{Kept, lacks_head}
+use Rattle.h2_laws_kept.specs.Kept.{Kept, lacks_head}
 use Rattle.h2_session.proofs.session.Session.hand_data.Goals as goal
 
 pub returns-then-is_headless-clause-state : goal.returns-then-is_headless-clause-state

@@ -2,12 +2,13 @@
 use Rattle.std.proofs.Common.{◌≡◌, ◌<◌, ◌+◌, ◌^◌, true, false, length, ◌∙◌, ap, sym, arith, filter, not, subst}
 use Rattle.h2_frames.specs.declared.frame.Frame.TheVariants as frame
 use Rattle.h2_model.specs.History.{is_of}
-use Rattle.h2_calls.specs.Calling.{all_entered}
+use Rattle.h2_laws_log.specs.Calling.{all_entered}
 use Rattle.h2_session.specs.Keeping.{heading_as}
-use Rattle.h2_session.proofs.Parts.{head-first, head-later, length-all-entered}
-use Rattle.h2_stands.proofs.Sums.{length-entered, length-filtered}
+use Rattle.h2_laws_kept.proofs.Heads.{length-all-entered}
+use Rattle.h2_session.proofs.Parts.{head-first, head-later}
+use Rattle.h2_laws_kept.proofs.Sums.{length-entered, length-filtered}
 use Rattle.h2_session.specs.contracts.session.Session.{the_view}
-use Rattle.h2_stands.specs.Kept.{Kept, lacks_head}
+use Rattle.h2_laws_kept.specs.Kept.{Kept, lacks_head}
 use Rattle.h2_session.proofs.session.Session.hand_head.Goals as goal
 
 pub overflow_add-self : goal.overflow_add-self

@@ -7,7 +7,7 @@ use Rattle.h2_model.specs.State.{State}
 use Rattle.h2_model.specs.Moves.{resetting}
 use Rattle.h2_session.proofs.Parts.{lacks-client, lacks-same, over-room, reset-held, reset-queued}
 use Rattle.h2_session.specs.contracts.session.Session.{the_view}
-use Rattle.h2_stands.specs.Kept.{Kept, lacks_head}
+use Rattle.h2_laws_kept.specs.Kept.{Kept, lacks_head}
 use Rattle.h2_session.proofs.session.Session.hand_reset.Goals as goal
 
 pub hold-requires-clause-room : goal.hold-requires-clause-room

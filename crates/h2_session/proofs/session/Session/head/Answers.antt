@@ -2,10 +2,10 @@
 use Rattle.std.proofs.Common.{◌≡◌, ◌+◌, [], length, true, false, is_some, sym, ◌∙◌, ap, subst}
 use Rattle.h2_session.proofs.Parts.{resized-empty}
 use Rattle.h2_session.proofs.Standing.{asked-head, head-stands, head-violated, roomier}
-use Rattle.h2_stands.specs.Rooms.{HasSpare}
-use Rattle.h2_stands.specs.StandsFor.{StandsFor}
+use Rattle.h2_laws_kept.specs.Rooms.{HasSpare}
+use Rattle.h2_laws_kept.specs.StandsFor.{StandsFor}
 use Rattle.h2_session.specs.contracts.session.Session.{the_view}
-use Rattle.h2_stands.specs.Kept.{Kept}
+use Rattle.h2_laws_kept.specs.Kept.{Kept}
 use Rattle.h2_session.proofs.session.Session.head.Goals as goal
 
 pub returns-then-is_some-clause-stands : goal.returns-then-is_some-clause-stands

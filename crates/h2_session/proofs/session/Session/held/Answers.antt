@@ -2,8 +2,8 @@
 use Rattle.std.proofs.Common.{is_some, min, sym, ◌∙◌, ap}
 use Rattle.h2_model.specs.Calls.{now}
 use Rattle.h2_sender.specs.Sending.{control_of}
-use Rattle.h2_stands.specs.Kept.{Kept}
-use Rattle.h2_stands.proofs.Holding.{violation-kept}
+use Rattle.h2_laws_kept.specs.Kept.{Kept}
+use Rattle.h2_laws_kept.proofs.Holding.{violation-kept}
 use Rattle.h2_session.proofs.Holdings.{kept-after, kept-before, none-there}
 use Rattle.h2_session.proofs.session.Session.held.Goals as goal
 

@@ -1,7 +1,7 @@
 -- A stream that is kept is live.
 use Rattle.std.proofs.Common.{◌∙◌, ap}
 use Rattle.h2_model.specs.Calls.{now}
-use Rattle.h2_stands.specs.Kept.{Kept}
+use Rattle.h2_laws_kept.specs.Kept.{Kept}
 use Rattle.h2_session.proofs.Judged.{seen-streams}
 use Rattle.h2_session.proofs.session.Session.is_live.Goals as goal
 

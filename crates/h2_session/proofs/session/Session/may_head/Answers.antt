@@ -1,7 +1,7 @@
 -- The next head, or one behind a head.
 use Rattle.std.proofs.Common.{sym, ◌∙◌, ◌==◌, ap}
 use Rattle.h2_model.specs.Calls.{now}
-use Rattle.h2_stands.specs.Kept.{Kept}
+use Rattle.h2_laws_kept.specs.Kept.{Kept}
 use Rattle.h2_session.proofs.Agreeing.{first-of-all, may-head-first, open-behind-head}
 use Rattle.h2_session.proofs.session.Session.may_head.Goals as goal
 

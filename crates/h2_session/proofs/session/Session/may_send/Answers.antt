@@ -2,7 +2,7 @@
 use Rattle.std.proofs.Common.{sym, ◌∙◌, ap}
 use Rattle.h2_model.specs.Account.{Account}
 use Rattle.h2_model.specs.Calls.{now}
-use Rattle.h2_stands.specs.Kept.{Kept}
+use Rattle.h2_laws_kept.specs.Kept.{Kept}
 use Rattle.h2_session.proofs.Judged.{its-openness, its-stream, no-openness, no-stream, seen-streams}
 use Rattle.h2_session.proofs.session.Session.may_send.Goals as goal
 

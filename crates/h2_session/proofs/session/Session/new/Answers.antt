@@ -1,7 +1,7 @@
 -- All begins as the account does.
 use Rattle.std.proofs.Common.{refl, ◌∙◌, arith}
 use Rattle.h2_session.proofs.Parts.{new-state}
-use Rattle.h2_stands.proofs.Histories.{begins}
+use Rattle.h2_laws_kept.proofs.Histories.{begins}
 use Rattle.h2_session.proofs.session.Session.new.Goals as goal
 use Rattle.h2_session.proofs.session.Session.new.Goals.{then-client, else-client}
 

@@ -5,10 +5,10 @@ use Rattle.h2_session.specs.Keeping.{leaves_a_stream}
 use Rattle.h2_session.proofs.Parts.{opening-is}
 use Rattle.h2_model.specs.Moves.{new_stream}
 use Rattle.h2_session.proofs.Standing.{asked-client, open-stands}
-use Rattle.h2_stands.proofs.Opens.{can-open-is, streams-below, table-room-there}
-use Rattle.h2_stands.specs.StandsFor.{StandsFor}
+use Rattle.h2_laws_kept.proofs.Opens.{can-open-is, streams-below, table-room-there}
+use Rattle.h2_laws_kept.specs.StandsFor.{StandsFor}
 use Rattle.h2_session.specs.contracts.session.Session.{the_view}
-use Rattle.h2_stands.specs.Kept.{Kept}
+use Rattle.h2_laws_kept.specs.Kept.{Kept}
 use Rattle.h2_session.proofs.session.Session.open.Goals as goal
 
 pub returns-then-not-may_open-clause-none : goal.returns-then-not-may_open-clause-none

@@ -3,8 +3,8 @@ use Rattle.std.proofs.Common.{◌≡◌, ◌∙◌, ap, arith, length, not}
 use Rattle.h2_model.specs.Moves.{resetting, is_dropped, is_dropped_entry}
 use Rattle.h2_session.proofs.Parts.{over-is}
 use Rattle.h2_session.specs.contracts.session.Session.{the_view}
-use Rattle.h2_stands.specs.Kept.{Kept}
-use Rattle.h2_stands.proofs.Sums.{length-filtered}
+use Rattle.h2_laws_kept.specs.Kept.{Kept}
+use Rattle.h2_laws_kept.proofs.Sums.{length-filtered}
 use Rattle.h2_session.proofs.session.Session.over.Goals as goal
 
 pub returns-clause-state : goal.returns-clause-state

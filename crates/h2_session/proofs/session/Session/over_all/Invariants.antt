@@ -2,8 +2,8 @@
 use Rattle.std.proofs.Common.{◌≡◌, drop}
 use Rattle.h2_session.specs.Keeping.{KeepsRoom}
 use Rattle.h2_session.specs.Steps.{resetting_all}
-use Rattle.h2_stands.specs.Kept.{IsSame}
-use Rattle.h2_stands.specs.Rooms.{KeepsCapacity}
+use Rattle.h2_laws_kept.specs.Kept.{IsSame}
+use Rattle.h2_laws_kept.specs.Rooms.{KeepsCapacity}
 use Rattle.h2_session.proofs.session.Session.over_all.Given as goal
 
 abbrev pub invariant-loop-at : goal.invariant-loop-at

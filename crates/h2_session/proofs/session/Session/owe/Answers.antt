@@ -2,8 +2,8 @@
 use Rattle.std.proofs.Common.{◌≡◌, ◌+◌, true, false, length, refl, sym, ◌∙◌, ap, arith}
 use Rattle.h2_model.specs.Log.{stream_of}
 use Rattle.h2_model.specs.Moves.{owing_frame}
-use Rattle.h2_stands.specs.Kept.{Kept, lacks_head}
-use Rattle.h2_stands.proofs.Sums.{length-entered}
+use Rattle.h2_laws_kept.specs.Kept.{Kept, lacks_head}
+use Rattle.h2_laws_kept.proofs.Sums.{length-entered}
 use Rattle.h2_session.proofs.Charges.{window-kept}
 use Rattle.h2_session.proofs.session.Session.owe.Goals as goal
 

@@ -3,8 +3,8 @@ use Rattle.std.proofs.Common.{length-drop, drop, arith, refl, sym, ◌∙◌, ap
 use Rattle.h2_frames.specs.Reading.{Feeds}
 use Rattle.h2_frames.specs.declared.reader.Step.TheVariants.{More, Got}
 use Rattle.h2_frames.specs.declared.fault.FrameFault.TheVariants.{Code}
-use Rattle.h2_stands.specs.Arriving.{IfCode}
-use Rattle.h2_session.specs.Feeding.{Greets, Refuses}
+use Rattle.h2_laws_kept.specs.Arriving.{IfCode}
+use Rattle.h2_session.specs.Feeding.{Greets, RefusesBytes}
 use Rattle.h2_session.proofs.Endings.{if-code}
 use Rattle.h2_session.proofs.Reading.{all-read, feeds-as, part-waits, reader-same, frame-faulty, frame-held, frame-goes-on, frame-told, frame-breaks, handed-on}
 use Rattle.h2_session.proofs.session.Session.read.Goals as goal
@@ -23,7 +23,7 @@ returns-in_err-event-in-Ok-Got-clause-refuses c a h =
     let fault = c.in_err-event-in-Ok-Got.field-0.0 in
     let e : Feeds c.self.inside.reader (drop c.loop-used.used c.args.bytes.now) (Ok (Got f c.in-Ok-Got.n)) c.feed.new.self =
     feeds-as c.self.inside.reader c.feed.new.self c.split_at.ensures.back (ap Ok c.in-Ok-Got.field-0-is) c.in-Ok-Got.ensures in
-    handed-on (IfCode (Refuses c.arrive.new.self a c.args.bytes.now)) c.from_residual.result fault c.from_residual.ensures.1
+    handed-on (IfCode (RefusesBytes c.arrive.new.self a c.args.bytes.now)) c.from_residual.result fault c.from_residual.ensures.1
     (if-code (frame-breaks _ a _ _ g c.loop-used-test.true f c.in-Ok-Got.n e.0 e.1 e.2 c.arrive.new.self) fault
     (c.in_err-event-in-Ok-Got.ensures.breaks _ (frame-held _ a _ _ g c.loop-used-test.true c.feed.new.self e.3)
     g.runs.sound g.runs.quiet))
@@ -62,7 +62,7 @@ returns-in-Err-Code-clause-refuses c a h =
     let g = subst (λ x. Greets x a c.args.bytes.now c.loop-used.used) (sym c.self.view_is) (c.loop-used.invariant.1 a h) in
     let e : Feeds c.self.inside.reader (drop c.loop-used.used c.args.bytes.now) (Err (Code c.in-Err-Code.code)) c.feed.new.self =
     feeds-as c.self.inside.reader c.feed.new.self c.split_at.ensures.back (ap Err c.in-Err-Code.field-0-is) c.in-Err-Code.ensures in
-    if-code (λ code p. subst (Refuses c.fail.new.self a c.args.bytes.now) (sym p.0)
+    if-code (λ code p. subst (RefusesBytes c.fail.new.self a c.args.bytes.now) (sym p.0)
     (frame-faulty _ a _ _ g c.loop-used-test.true c.in-Err-Code.code e.0 c.fail.new.self p.1)) c.fail.result
     (c.fail.ensures.fails g.reached (reader-same _ a _ _ g c.loop-used-test.true c.feed.new.self e.1) g.runs.sound)
 

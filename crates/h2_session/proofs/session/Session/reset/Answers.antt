@@ -2,8 +2,8 @@
 use Rattle.std.proofs.Common.{◌≡◌, true, false, refl, sym, ◌∙◌, ap, is_some}
 use Rattle.h2_model.specs.Calls.{now}
 use Rattle.h2_session.proofs.Standing.{asked-live, capacity-itself, reset-stands, same-itself}
-use Rattle.h2_stands.specs.Kept.{Kept}
-use Rattle.h2_stands.proofs.Handing.{held-room-there, room-there}
+use Rattle.h2_laws_kept.specs.Kept.{Kept}
+use Rattle.h2_laws_kept.proofs.Handing.{held-room-there, room-there}
 use Rattle.h2_session.proofs.session.Session.reset.Goals as goal
 
 pub returns-then-is_some : goal.returns-then-is_some

@@ -2,12 +2,12 @@
 use Rattle.std.proofs.Common.{◌≡◌, ℕ, List, Some, take, length, true, false, is_some, sym, ◌∙◌, ap, subst, refl, arith, length-take}
 use Rattle.h2_frames.specs.declared.frame.Frame.TheVariants as frame
 use Rattle.h2_model.specs.Moves.{handing}
-use Rattle.h2_model.proofs.Lives.{found}
+use Rattle.h2_model.specs.State.{found}
 use Rattle.h2_session.proofs.Standing.{asked-open, roomier, send-nothing, send-stands, send-violated, some-taken}
 use Rattle.h2_streams.specs.Changes.{Allows}
 use Rattle.h2_streams.specs.declared.changes.Change.TheVariants.{DataSent}
-use Rattle.h2_stands.specs.Kept.{Kept, lacks_head}
-use Rattle.h2_stands.specs.StandsFor.{StandsFor}
+use Rattle.h2_laws_kept.specs.Kept.{Kept, lacks_head}
+use Rattle.h2_laws_kept.specs.StandsFor.{StandsFor}
 use Rattle.h2_session.proofs.session.Session.send.Goals as goal
 
 pub returns-then-n-eq0-clause-stands : goal.returns-then-n-eq0-clause-stands

@@ -7,8 +7,8 @@ use Rattle.std.specs.Int.Signed.{le_z}
 use Rattle.h2_model.specs.Calls.{now}
 use Rattle.h2_session.proofs.Parts.{allows-sent, least-none, least-some, not-positive, positive, unwrapped, within-window}
 use Rattle.h2_session.proofs.Standing.{sendable-by}
-use Rattle.h2_stands.proofs.Answers.{window-is}
-use Rattle.h2_stands.specs.Kept.{Kept}
+use Rattle.h2_laws_kept.proofs.Answers.{window-is}
+use Rattle.h2_laws_kept.specs.Kept.{Kept}
 use Rattle.h2_session.proofs.session.Session.sendable.Goals as goal
 
 pub returns-then-window-le0-clause-count : goal.returns-then-window-le0-clause-count

@@ -1,6 +1,6 @@
 -- The frame counts, its event is told, and what is owed for it fits the room that was made.
 use Rattle.std.proofs.Common.{sym, ◌∙◌, ap, arith}
-use Rattle.h2_stands.specs.Kept.{Kept}
+use Rattle.h2_laws_kept.specs.Kept.{Kept}
 use Rattle.h2_session.proofs.Settling.{same-through, settles}
 use Rattle.h2_session.proofs.session.Session.settle.Goals as goal
 

@@ -1,7 +1,7 @@
 use Rattle.std.proofs.Common.{◌≡◌, sym, subst, None, Some, refl, Option}
 use Rattle.h2_frames.specs.declared.frame.Frame.{Frame}
 use Rattle.h2_model.specs.StreamFaults.{stream_fault}
-use Rattle.h2_stands.specs.Kept.{Kept}
+use Rattle.h2_laws_kept.specs.Kept.{Kept}
 use Rattle.h2_session.specs.Steps.{IsOn, IsWhole, IsPart}
 use Rattle.h2_session.specs.declared.judging.Whole.{Whole}
 use Rattle.h2_session.proofs.Judged.{fault-of-block, no-fault, plain}

@@ -1,9 +1,9 @@
 -- What is looked up is the account's stream, with its unreturned bytes.
 use Rattle.std.proofs.Common.{◌≡◌, ◌∙◌, sym, ap, subst}
-use Rattle.h2_stands.specs.Kept.{Kept}
+use Rattle.h2_laws_kept.specs.Kept.{Kept}
 use Rattle.h2_session.specs.Steps.{IsOn}
 use Rattle.h2_session.proofs.Judged.{its-stream, no-stream, owed-none, owed-shut, owed-open}
-use Rattle.h2_model.proofs.Lives.{found}
+use Rattle.h2_model.specs.State.{found}
 use Rattle.h2_session.proofs.session.Session.stream_update.Goals as goal
 
 pub returns-in-None : goal.returns-in-None

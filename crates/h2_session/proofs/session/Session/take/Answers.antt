@@ -7,10 +7,10 @@ use Rattle.h2_model.specs.Moves.{giving_all}
 use Rattle.h2_session.proofs.Standing.{take-stands}
 use Rattle.h2_session.proofs.Updates.{can-give-whole, taken-is}
 use Rattle.h2_session.specs.Keeping.{CanGiveWhole}
-use Rattle.h2_stands.proofs.Answers.{flow-is}
-use Rattle.h2_stands.specs.StandsFor.{StandsFor}
+use Rattle.h2_laws_kept.proofs.Answers.{flow-is}
+use Rattle.h2_laws_kept.specs.StandsFor.{StandsFor}
 use Rattle.h2_session.specs.contracts.session.Session.{the_view}
-use Rattle.h2_stands.specs.Kept.{Kept}
+use Rattle.h2_laws_kept.specs.Kept.{Kept}
 use Rattle.h2_session.proofs.session.Session.take.Goals as goal
 
 pub returns-clause-gives : goal.returns-clause-gives

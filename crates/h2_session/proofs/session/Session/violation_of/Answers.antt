@@ -1,8 +1,8 @@
 use Rattle.std.proofs.Common.{◌≡◌, ◌∙◌, sym, ap, subst, ◌&&◌, not, to_z, of_z, w64, arith}
 use Rattle.std.proofs.lemmas.Int.{ints}
 use Rattle.h2_model.specs.Violations.{is_settings, breaks_block}
-use Rattle.h2_stands.specs.Kept.{Kept}
-use Rattle.h2_stands.specs.StandsFor.{Holds}
+use Rattle.h2_laws_kept.specs.Kept.{Kept}
+use Rattle.h2_laws_kept.specs.StandsFor.{Holds}
 use Rattle.h2_session.proofs.Judged.{rows-are, seen-first, seen-block, seen-streams, seen-window, seen-receive}
 use Rattle.h2_session.proofs.session.Session.violation_of.Goals as goal
 

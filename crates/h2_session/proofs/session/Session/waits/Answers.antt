@@ -2,8 +2,8 @@
 use Rattle.std.proofs.Common.{◌∙◌, ap, sym}
 use Rattle.h2_model.specs.Calls.{now}
 use Rattle.h2_sender.specs.Sending.{waits_in}
-use Rattle.h2_stands.specs.Kept.{Kept}
-use Rattle.h2_stands.proofs.Answers.{waits-is}
+use Rattle.h2_laws_kept.specs.Kept.{Kept}
+use Rattle.h2_laws_kept.proofs.Answers.{waits-is}
 use Rattle.h2_session.proofs.session.Session.waits.Goals as goal
 
 pub returns : goal.returns

@@ -5,7 +5,7 @@ use Rattle.h2_model.specs.Moves.{giving}
 use Rattle.h2_session.specs.Keeping.{CanGive}
 use Rattle.h2_session.proofs.Parts.{counts, given-connection, given-stream}
 use Rattle.h2_session.specs.contracts.session.Session.{the_view}
-use Rattle.h2_stands.specs.Kept.{Kept}
+use Rattle.h2_laws_kept.specs.Kept.{Kept}
 use Rattle.h2_session.proofs.session.Session.widen_receiving.Goals as goal
 
 pub returns-then-id-eq0-clause-state : goal.returns-then-id-eq0-clause-state

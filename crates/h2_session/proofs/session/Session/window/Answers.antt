@@ -2,13 +2,12 @@
 use Rattle.std.proofs.Common.{◌≡◌, Some, None, pos, ◌+ℤ◌, sym, ◌∙◌, ap, arith}
 use Rattle.std.proofs.lemmas.Int.{ints}
 use Rattle.h2_model.specs.Calls.{now}
-use Rattle.h2_model.specs.State.{stream_of_log}
-use Rattle.h2_model.proofs.Lives.{found}
+use Rattle.h2_model.specs.State.{stream_of_log, found}
 use Rattle.h2_session.proofs.Standing.{asked-live}
-use Rattle.h2_stands.proofs.Answers.{stream-window-is}
-use Rattle.h2_stands.proofs.Handing.{stream-found}
-use Rattle.h2_streams.specs.Tables.{IsInRange}
-use Rattle.h2_stands.specs.Kept.{Kept}
+use Rattle.h2_laws_kept.proofs.Answers.{stream-window-is}
+use Rattle.h2_laws_kept.proofs.Handing.{stream-found}
+use Rattle.h2_streams.specs.Tables.{HasCreditInRange}
+use Rattle.h2_laws_kept.specs.Kept.{Kept}
 use Rattle.h2_session.proofs.session.Session.window.Goals as goal
 
 pub returns-in-Some-clause-value : goal.returns-in-Some-clause-value
@@ -18,7 +17,7 @@ returns-in-Some-clause-value c = λ r h s.
     sym (ap (λ (l : Kept). found c.args.id l.state.streams) c.self.view_is) ∙ sym c.get.ensures.stream ∙ c.in-Some.is in
     let window = stream-window-is k (now r h) s.holds c.args.id (asked-live k c.args.id c.requires r h s) c.in-Some.stream is in
     let initial : c.self.inside.initial ≡ k.state.initial = ap (λ (l : Kept). l.state.initial) c.self.view_is in
-    let range : IsInRange c.in-Some.stream = c.in-Some.ensures.range in
+    let range : HasCreditInRange c.in-Some.stream = c.in-Some.ensures.range in
     let low = range.low in
     let high = range.high in
     let from = c.from.ensures in
@@ -43,7 +42,7 @@ returns-in-Some-clause-credit c = λ t e.
     let same : t ≡ c.in-Some.stream = cc in
     let credit : t.credit ≡ c.in-Some.stream.credit = ap (λ s. s.credit) same in
     let initial : c.self.inside.initial ≡ k.state.initial = ap (λ (l : Kept). l.state.initial) c.self.view_is in
-    let range : IsInRange c.in-Some.stream = c.in-Some.ensures.range in
+    let range : HasCreditInRange c.in-Some.stream = c.in-Some.ensures.range in
     let low = range.low in
     let high = range.high in
     let from = c.from.ensures in

@@ -1,5 +1,5 @@
 use Rattle.std.proofs.Common.{ap, arith}
-use Rattle.hpack_core.specs.Tables.{State, kept}
+use Rattle.hpack_core.specs.Tables.{TableState, kept}
 use Rattle.hpack_core.proofs.TableLemmas.{total_kept}
 use Rattle.hpack_core.proofs.table.Table.held.Goals as goal
 
@@ -11,5 +11,5 @@ overflow_sub-result c = omega (arith, total_kept c.self.inside.entries.items, c.
 
 pub returns-clause-held : goal.returns-clause-held
 returns-clause-held c =
-    let e = ap (λ (t : State). kept t.entries) c.self.view_is in
+    let e = ap (λ (t : TableState). kept t.entries) c.self.view_is in
     omega (arith, total_kept c.self.inside.entries.items, c.self.invariant.sum, c.len.ensures, e)

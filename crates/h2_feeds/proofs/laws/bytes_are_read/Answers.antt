@@ -1,6 +1,0 @@
--- Step by step.
-use Rattle.h2_feeds.proofs.Steps.{starts, reads-frame, reads-byte, reads-preface, ends-preface}
-use Rattle.h2_feeds.proofs.laws.bytes_are_read.Goals as goal
-
-pub returns : goal.returns
-returns c = record { starts = starts; frame = reads-frame; byte = reads-byte; preface = reads-preface; greeted = ends-preface }

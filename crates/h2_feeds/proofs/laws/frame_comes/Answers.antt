@@ -1,6 +1,0 @@
--- All bytes but the last wait.
-use Rattle.h2_feeds.proofs.Frames.{frame-comes, frame-used}
-use Rattle.h2_feeds.proofs.laws.frame_comes.Goals as goal
-
-pub returns : goal.returns
-returns c = record { after = frame-comes; uses = frame-used }

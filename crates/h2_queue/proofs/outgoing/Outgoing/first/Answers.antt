@@ -1,8 +1,0 @@
--- Nothing of the first SETTINGS was given.
-use Rattle.std.proofs.Common.{refl}
-use Rattle.h2_queue.specs.Outgoing.{written}
-use Rattle.h2_queue.proofs.outgoing.Outgoing.first.Goals as goal
-
-pub returns : goal.returns
-unfolding written
-returns c = refl

@@ -1,3 +1,0 @@
-pub mod Outgoing
-pub mod Queue
-pub mod Places

@@ -1,0 +1,23 @@
+-- DATA that others may pass goes to the end; the search ends at a frame that blocks the way.
+use Rattle.std.proofs.Common.{arith, rules, ◌≡◌, ◌<◌, ◌+◌, ◌-◌, true, List, length, get_or, drop, ℕ, ap, sym, ◌∙◌}
+use Rattle.h2_model.specs.Queue.{Waiting, stays_behind}
+use Rattle.h2_sender.specs.Places.{place_of}
+use Rattle.h2_sender.proofs.Placed.{place_of_free, place_blocked}
+use Rattle.h2_sender.proofs.places.place_of.Goals as goal
+
+pub returns-then-is_free : goal.returns-then-is_free
+returns-then-is_free c =
+    let end = place_of_free c.args.new.now c.args.frames.now.items (sym c.is_free.ensures ∙ c.if-is_free.true) in
+    search rules
+
+pub returns-then-stays_behind : goal.returns-then-stays_behind
+returns-then-stays_behind c =
+    let queue : List Waiting = c.args.frames.now.items in
+    let earlier : Waiting = c.index-earlier.result.now in
+    let next : c.places.i - 1 + 1 ≡ c.places.i = omega arith in
+    let there : c.places.i - 1 < length queue = search rules in
+    let blocks : stays_behind c.args.new.now.frame (get_or queue (c.places.i - 1) earlier) ≡ true =
+    ap (stays_behind c.args.new.now.frame) (sym c.index-earlier.ensures) ∙ sym c.stays_behind.ensures ∙ c.if-stays_behind.true in
+    c.places.invariant.0
+    ∙ ap (λ (n : ℕ). n + place_of c.args.new.now (drop n queue)) (sym next)
+    ∙ sym (place_blocked c.args.new.now queue (c.places.i - 1) earlier there blocks)

@@ -1,0 +1,212 @@
+//! The queue of a session's outgoing frames.
+
+ghost use Rattle.std.specs.Prelude.{◌≡◌, ◌≤◌, ◌<◌, ◌+◌, ◌-◌, ◌^◌, ◌++◌, ◌⊎◌, [], length, take, drop, min, not, filter, IfOk, OnOk, OnErr};
+ghost use Rattle.std.specs.List.{list_any};
+ghost use Rattle.std.specs.Option.{option_to_list};
+ghost use Rattle.h2_model.specs.History.{start, own_settings};
+ghost use Rattle.h2_model.specs.Moves.{kept_waiting};
+ghost use Rattle.h2_model.specs.Queue.{is_free, flow, behind, whole_within, queued, unsent, control_bytes, data_in, entered};
+ghost use Rattle.h2_sender.specs.Outgoing.{IsSendable};
+ghost use Rattle.h2_sender.specs.Queue.{waits_for};
+
+use crate::frames::data_in;
+use crate::outgoing::Outgoing;
+use crate::places::{make_ready, place};
+use crate::sums;
+use h2_frames::{Frame, Setting, SettingList};
+use std::alloc::{AllocError, Global};
+use std::collections::VecDeque;
+use std::marker::Model;
+
+/// What a call of `take` gave: how many bytes, and the frame whose last byte was among them.
+#[derive(Debug, Drop)]
+pub struct Taken {
+    pub bytes: u32,
+    pub whole: Option<Frame>,
+}
+
+/// Frames that wait to go out, in their order. Only `new` and `reserve` take memory. The content of DATA is moved in with
+/// its frame, and copied once, by `take`.
+#[derive(Debug, Drop)]
+pub struct FrameQueue {
+    frames: VecDeque<Outgoing>,
+    // The bytes of all DATA, those of a begun frame among them.
+    data: u64,
+}
+
+impl Model for FrameQueue {
+    ghost use Rattle.std.specs.Prelude.{◌-◌};
+    ghost use Rattle.std.specs.VecDeque.{deque_len, deque_capacity};
+    ghost use Rattle.h2_sender.specs.Queue.{Queue, IsCounted};
+
+    ghost Value = { Queue };
+
+    ghost view = { λ q. record { frames = q.frames.items; room = deque_capacity q.frames - deque_len q.frames } };
+
+    ghost invariant = { λ q. IsCounted q.frames.items q.«data» };
+}
+
+// A client disables push; a server allows 256 streams: RFC 9113 section 6.5.2.
+fn own_settings(alloc: Global, client: bool) -> Result<Frame, AllocError>
+    ensures { IfOk result (λ f. f ≡ own_settings client) }
+{
+    let mut list = SettingList::new(alloc);
+    if client {
+        list.push(Setting {
+            identifier: 2,
+            value: 0,
+        })?;
+    } else {
+        list.push(Setting {
+            identifier: 3,
+            value: 256,
+        })?;
+    }
+    Ok(Frame::Settings(list))
+}
+
+impl FrameQueue {
+    /// A queue of the first SETTINGS, behind the preface for a client, with room for so many more frames. Fails where
+    /// memory runs out.
+    pub fn new(alloc: Global, client: bool, room: usize) -> Result<FrameQueue, AllocError>
+        ensures frames { IfOk result (λ q. q.frames ≡ (start client).waiting) }
+        ensures room { IfOk result (λ q. room ≤ q.room) }
+    {
+        let settings = own_settings(alloc, client)?;
+        let mut frames = VecDeque::new(alloc);
+        frames.reserve(room.saturating_add(1))?;
+        frames.push_back(Outgoing::first(settings, client))?;
+        Ok(FrameQueue { frames, data: 0 })
+    }
+
+    /// Makes room for so many more frames. Out of memory the queue stays as it was.
+    pub fn reserve(&mut self, n: usize) -> Result<(), AllocError>
+        ensures frames { self.new.frames ≡ self.old.frames }
+        ensures room { OnOk result (n ≤ self.new.room) }
+        ensures kept { self.old.room ≤ self.new.room }
+    {
+        self.frames.reserve(n)
+    }
+
+    /// A frame enters at its place: DATA at the end, and another frame before DATA that it needn't stay behind. It stays
+    /// behind what is of its stream where one of the two is a field block or it is a reset, and blocks stay in their
+    /// order. A payload has at most 16,384 bytes, SETTINGS one setting, and a block, which is cut as it is given, any
+    /// length. All DATA together has at most 2^40 bytes.
+    pub fn enter(&mut self, frame: Frame)
+        requires sendable { IsSendable frame }
+        requires room { 0 < self.old.room }
+        requires bound { queued 0 self.old.frames + data_in 0 frame ≤ 2 ^ 40 }
+        ensures frames { self.new.frames ≡ entered frame self.old.frames }
+        ensures room { self.old.room ≤ self.new.room + 1 }
+        ensures capacity { self.old.room + length self.old.frames ≤ self.new.room + length self.new.frames }
+    {
+        let added = data_in(0, &frame);
+        make_ready(&mut self.frames, &frame);
+        place(&mut self.frames, Outgoing::fresh(frame));
+        self.data += added;
+    }
+
+    /// Drops the DATA of a stream that wasn't begun, but for its end, and tells how many bytes it had.
+    pub fn drop_data(&mut self, stream: u32) -> u64
+        ensures frames { self.new.frames ≡ kept_waiting stream self.old.frames }
+        ensures dropped { result ≡ queued 0 self.old.frames - queued 0 self.new.frames }
+        ensures capacity { self.old.room + length self.old.frames ≤ self.new.room + length self.new.frames }
+    {
+        let before = self.data;
+        self.frames.retain(|w| !w.is_dropped(stream));
+        self.data = sums::queued(&self.frames, 0);
+        before - self.data
+    }
+
+    /// Drops all DATA that others may pass, and tells how many bytes it had.
+    pub fn drop_free(&mut self) -> u64
+        ensures frames { self.new.frames ≡ filter (λ w. not (is_free w)) self.old.frames }
+        ensures dropped { result ≡ queued 0 self.old.frames - queued 0 self.new.frames }
+        ensures room { self.old.room ≤ self.new.room }
+        ensures capacity { self.old.room + length self.old.frames ≤ self.new.room + length self.new.frames }
+    {
+        let before = self.data;
+        self.frames.retain(|w| !w.is_free());
+        self.data = sums::queued(&self.frames, 0);
+        before - self.data
+    }
+
+    /// The bytes of a stream's DATA that others may pass: those that `drop_free` would drop.
+    pub fn free_data(&self, stream: u32) -> u64
+        ensures count { result ≡ queued stream self.now.frames - queued stream (filter (λ w. not (is_free w)) self.now.frames) }
+        ensures bound { result ≤ 2 ^ 40 }
+    {
+        sums::free_data(&self.frames, stream)
+    }
+
+    /// Gives the next bytes, those of the first frame that fit.
+    pub fn take(&mut self, out: &mut [u8]) -> Taken
+        requires { length out.old < 2 ^ 32 }
+        ensures fits { result.bytes ≤ length out.old }
+        ensures there { result.bytes ≤ length (flow self.old.frames) }
+        ensures bytes { out.new ≡ take result.bytes (flow self.old.frames) ++ drop result.bytes out.old }
+        ensures frames { self.new.frames ≡ behind result.bytes self.old.frames }
+        ensures whole { whole_within result.bytes self.old.frames ≡ option_to_list result.whole }
+        ensures some { result.bytes ≡ 0 → (out.old ≡ []) ⊎ (flow self.old.frames ≡ []) }
+        ensures capacity { self.old.room + length self.old.frames ≤ self.new.room + length self.new.frames }
+    {
+        let frames = &mut self.frames;
+        if out.is_empty() {
+            return Taken {
+                bytes: 0,
+                whole: None,
+            };
+        }
+        let Some(mut first) = frames.pop_front() else {
+            return Taken {
+                bytes: 0,
+                whole: None,
+            };
+        };
+        let bytes = first.give(out) as u32;
+        if first.left() > 0 {
+            frames.push_front_reserved(first);
+            return Taken { bytes, whole: None };
+        }
+        self.data -= first.data(0);
+        Taken {
+            bytes,
+            whole: Some(first.into_frame()),
+        }
+    }
+
+    /// How many bytes of DATA wait, those of a begun frame among them.
+    pub fn data(&self) -> u64
+        ensures count { result ≡ queued 0 self.now.frames }
+        ensures bound { result ≤ 2 ^ 40 }
+    {
+        self.data
+    }
+
+    /// How many bytes of DATA for a stream, or, for stream 0, for any, weren't given.
+    pub fn unsent(&self, stream: u32) -> u64
+        ensures count { result ≡ unsent stream self.now.frames }
+        ensures bound { result ≤ 2 ^ 40 }
+    {
+        sums::unsent(&self.frames, stream)
+    }
+
+    /// How many bytes wait that are no part of DATA, counted to 2^64 - 1.
+    pub fn control(&self) -> u64
+        ensures { result ≡ min (control_bytes self.now.frames) (2 ^ 64 - 1) }
+    {
+        sums::control(&self.frames)
+    }
+
+    /// Whether a frame of a stream waits that is no window update.
+    pub fn waits(&self, stream: u32) -> bool
+        ensures { result ≡ list_any (waits_for stream) self.now.frames }
+    {
+        for i in 0..self.frames.len() {
+            if self.frames[i].is_waited_for(stream) {
+                return true;
+            }
+        }
+        false
+    }
+}

@@ -1,0 +1,55 @@
+//! Sums over the frames of the queue.
+
+ghost use Rattle.std.specs.Prelude.{◌≡◌, ◌≤◌, ◌-◌, ◌^◌, min, sum_by};
+ghost use Rattle.h2_model.specs.Queue.{queued, unsent, control_bytes};
+ghost use Rattle.h2_sender.specs.Queue.{free_data};
+
+use crate::outgoing::Outgoing;
+use std::collections::VecDeque;
+
+/// The bytes of DATA for a stream, or, for stream 0, for any.
+pub(crate) fn queued(frames: &VecDeque<Outgoing>, stream: u32) -> u64
+    requires { queued stream frames.now.items ≤ 2 ^ 40 }
+    ensures { result ≡ queued stream frames.now.items }
+{
+    let mut sum = 0;
+    for i in 0..frames.len() {
+        sum += frames[i].data(stream);
+    }
+    sum
+}
+
+/// Of those the ones that others may pass.
+pub(crate) fn free_data(frames: &VecDeque<Outgoing>, stream: u32) -> u64
+    requires { free_data stream frames.now.items ≤ 2 ^ 40 }
+    ensures { result ≡ free_data stream frames.now.items }
+{
+    let mut sum = 0;
+    for i in 0..frames.len() {
+        sum += frames[i].free_data(stream);
+    }
+    sum
+}
+
+/// The bytes of DATA for a stream that weren't given.
+pub(crate) fn unsent(frames: &VecDeque<Outgoing>, stream: u32) -> u64
+    requires { unsent stream frames.now.items ≤ 2 ^ 40 }
+    ensures { result ≡ unsent stream frames.now.items }
+{
+    let mut sum = 0;
+    for i in 0..frames.len() {
+        sum += frames[i].unsent(stream);
+    }
+    sum
+}
+
+/// The bytes that wait and are no part of DATA, counted to 2^64 - 1.
+pub(crate) fn control(frames: &VecDeque<Outgoing>) -> u64
+    ensures { result ≡ min (control_bytes frames.now.items) (2 ^ 64 - 1) }
+{
+    let mut sum = 0u64;
+    for i in 0..frames.len() {
+        sum = sum.saturating_add(frames[i].control());
+    }
+    sum
+}

@@ -1,6 +1,0 @@
--- From what a session keeps at first.
-use Rattle.h2_stands.proofs.Starts.{new-held}
-use Rattle.h2_stands.proofs.laws.session_begins_held.Goals as goal
-
-pub returns : goal.returns
-returns c = new-held
