@@ -1,27 +1,27 @@
-// DATA frames of 16 KiB, read in feeds of 16 KiB.
+//! DATA frames of 16 KiB, read in feeds of 16 KiB.
 
-use crate::timing::{hundredths, nanos_since};
+use crate::table::{nanos_since, print_row};
 use anyhow::{Result, bail};
-use h2_frames::{Frame, FrameReader, Step, write_frame};
-use pb_wire::Blob;
+use h2_frames::{FrameReader, Step};
 use std::alloc::Global;
 use std::time::Instant;
 
+/// The length of a frame's content, and its nine bytes of head: type DATA, no flags, stream 1.
 const LEN: usize = 16_384;
 
-// How many frames stand behind one another, and how often these are fed: 64 MiB of content.
+const HEAD: &[u8] = b"\0\x40\0\0\0\0\0\0\x01";
+
+/// How many frames stand behind one another, and how often these are fed: 64 MiB of content.
 const FRAMES: u64 = 64;
 
 const ROUNDS: u64 = 64;
 
-// The bytes of the frames.
 fn spelled(alloc: Global) -> Result<Vec<u8>> {
     let content = vec![in alloc; b'x'; LEN]?;
-    let frame = Frame::Data(1, Blob::from_vec(content), false, LEN as u32);
-    let one = write_frame(alloc, &frame)?;
     let mut bytes = Vec::new(alloc);
     for _ in 0..FRAMES {
-        bytes.extend_from_slice(one.bytes())?;
+        bytes.extend_from_slice(HEAD)?;
+        bytes.extend_from_slice(content.as_slice())?;
     }
     Ok(bytes)
 }
@@ -44,11 +44,10 @@ fn feed(reader: &mut FrameReader, piece: &[u8]) -> Result<u64> {
     Ok(3)
 }
 
-// One row.
-pub fn print_table(rt: &HostRuntime) -> Result<()> {
-    let alloc = rt.alloc();
-    let bytes = spelled(alloc)?;
-    let mut reader = FrameReader::new(alloc)?;
+/// One row: the frames' bytes.
+pub fn measure(rt: &HostRuntime) -> Result<()> {
+    let bytes = spelled(rt.alloc())?;
+    let mut reader = FrameReader::new(rt.alloc())?;
     let mut count: u64 = 0;
     let start = Instant::now(rt)?;
     for _ in 0..ROUNDS {
@@ -57,15 +56,5 @@ pub fn print_table(rt: &HostRuntime) -> Result<()> {
         }
     }
     let nanos = nanos_since(rt, start)?;
-    if count != FRAMES * ROUNDS {
-        bail!("{count} frames were read");
-    }
-    let each = hundredths(nanos, FRAMES * ROUNDS * LEN as u64);
-    println!(rt;
-        "DATA in feeds of 16 KiB: {} ms, {}.{:02} ns/byte",
-        nanos / 1_000_000,
-        each / 100,
-        each % 100
-    )?;
-    Ok(())
+    print_row(rt, "frames", count, nanos, FRAMES * ROUNDS * LEN as u64)
 }

@@ -1,8 +1,8 @@
-// HPACK: how fast Huffman strings are decoded, and how many blocks of twelve common fields are read and written.
+//! HPACK: a text of 1 MiB as a Huffman string, and header blocks of twelve common fields.
 
 ghost use Rattle.std.specs.Prelude.{◌<◌, ◌^◌, All, IsTrue, length};
 
-use crate::timing::nanos_since;
+use crate::table::{nanos_since, print_row};
 use anyhow::{Result, bail};
 use ext_msgs::{Field, FieldList};
 use hpack_core::{Decoder, Encoder};
@@ -11,103 +11,101 @@ use pb_wire::Blob;
 use std::alloc::Global;
 use std::time::Instant;
 
-// How often each call is measured, of which the least time counts.
+/// How often each call is measured, of which the least time counts.
 const ROUNDS: u32 = 32;
 
-// How many bytes a text has, and how many blocks one measure takes.
-const TEXT: u64 = 1 << 20;
+/// How often the value is repeated, and how many blocks one measure takes.
+const REPEATS: u32 = 16_384;
 
 const BLOCKS: u32 = 4096;
 
-// The fields of a request as a browser sends it.
-const HEAD: [(&[u8], &[u8]); 12] = [
-    (b":method", b"GET"),
-    (b":scheme", b"https"),
-    (b":authority", b"www.example.com"),
-    (b":path", b"/articles/2026/12/a-common-path?page=2"),
-    (
-        b"user-agent",
-        b"Mozilla/5.0 (X11; Linux x86_64; rv:128.0) Gecko/20100101 Firefox/128.0",
-    ),
-    (
-        b"accept",
-        b"text/html,application/xhtml+xml,application/xml;q=0.9,*/*;q=0.8",
-    ),
-    (b"accept-language", b"en-US,en;q=0.5"),
-    (b"accept-encoding", b"gzip, deflate"),
-    (b"referer", b"https://www.example.com/articles/"),
-    (b"cookie", b"session=2f1c8e7a9b3d4c5e6f708192a3b4c5d6"),
-    (b"cache-control", b"no-cache"),
-    (b"x-request-id", b"7e4c3f0a-1b2d-4e5f-8a9b-0c1d2e3f4a5b"),
-];
+/// A value as a browser sends it, of 64 bytes.
+const VALUE: &[u8] = b"text/html,application/xhtml+xml,application/xml;q=0.9,image/webp";
 
-// A text that is made of the values of a head.
 fn text(alloc: Global) -> Result<Vec<u8>> {
     let mut text = Vec::new(alloc);
-    for _ in 0..TEXT {
-        for (_, value) in HEAD {
-            text.extend_from_slice(value)?;
-        }
-        if text.len() as u64 >= TEXT {
-            break;
-        }
+    for _ in 0..REPEATS {
+        text.extend_from_slice(VALUE)?;
     }
     Ok(text)
 }
 
-// The parts a second, in millions.
-fn millions(parts: u64, nanos: u64) -> u64 {
-    parts.min(1 << 40) * 1000 / nanos.max(1)
+// The least time to spell a text as a Huffman string, of some, and the string.
+fn encode_text(rt: &HostRuntime, text: &[u8]) -> Result<(u64, Vec<u8>)> {
+    if text.len() >= 0x2000_0000 {
+        bail!("a text is too long");
+    }
+    let len = huff_len(text);
+    if len >= 0x1_0000_0000 {
+        bail!("a string is too long");
+    }
+    let mut string = vec![in rt.alloc(); 0u8; len as usize]?;
+    let mut least = u64::MAX;
+    for _ in 0..ROUNDS {
+        let start = Instant::now(rt)?;
+        huff_encode(text, &mut string);
+        least = least.min(nanos_since(rt, start)?);
+    }
+    Ok((least, string))
 }
 
-/// Prints the megabytes of text that are decoded and encoded in a second.
-pub fn print_huffman(rt: &HostRuntime) -> Result<()> {
-    let alloc = rt.alloc();
-    let text = text(alloc)?;
-    if text.len() >= 0x2000_0000 {
-        bail!("a text of more than 2^29 bytes");
+// The least time to read it back, of some.
+fn decode_text(rt: &HostRuntime, string: &[u8]) -> Result<u64> {
+    if string.len() >= 0x2000_0000 {
+        bail!("a string is too long");
     }
-    let len = huff_len(&text);
-    if len > text.len() as u64 {
-        bail!("a text that grows");
-    }
-    let mut string = Vec::new(alloc);
-    string.resize(len as usize, 0u8)?;
-    let mut encode = u64::MAX;
+    let mut out = vec![in rt.alloc(); 0u8; 2 * string.len()]?;
+    let mut least = u64::MAX;
     for _ in 0..ROUNDS {
         let start = Instant::now(rt)?;
-        huff_encode(&text, &mut string);
-        encode = encode.min(nanos_since(rt, start)?);
+        huff_decode(string, &mut out)?;
+        least = least.min(nanos_since(rt, start)?);
     }
-    let mut out = Vec::new(alloc);
-    out.resize(2 * string.len(), 0u8)?;
-    let mut decode = u64::MAX;
-    for _ in 0..ROUNDS {
-        let start = Instant::now(rt)?;
-        let count = huff_decode(&string, &mut out)?;
-        decode = decode.min(nanos_since(rt, start)?);
-        if u64::from(count) != text.len() as u64 {
-            bail!("a text that came back otherwise");
-        }
-    }
-    let parts = text.len() as u64;
-    println!(rt;
-        "huffman    {} bytes of text, {} of string",
-        text.len(),
-        string.len()
-    )?;
-    println!(rt; "decode     {} MB/s of text", millions(parts, decode))?;
-    println!(rt; "encode     {} MB/s of text", millions(parts, encode))?;
+    Ok(least)
+}
+
+/// Two rows: the bytes of text.
+pub fn measure_huffman(rt: &HostRuntime) -> Result<()> {
+    let text = text(rt.alloc())?;
+    let size = text.len() as u64;
+    let (encoding, string) = encode_text(rt, text.as_slice())?;
+    print_row(rt, "huffman, encode", size, encoding, size)?;
+    let decoding = decode_text(rt, string.as_slice())?;
+    print_row(rt, "huffman, decode", size, decoding, size)
+}
+
+// A field is put behind the others.
+fn push(alloc: Global, fields: &mut FieldList, name: &[u8], value: &[u8]) -> Result<()> {
+    let name = Blob::of(alloc, name)?;
+    let value = Blob::of(alloc, value)?;
+    fields.push(Field { name, value })?;
     Ok(())
 }
 
-// The head as a list of fields.
+// The fields of a request as a browser sends it: some that the static table has, and some of its own.
 fn head(alloc: Global) -> Result<FieldList> {
     let mut fields = FieldList::new(alloc);
-    for (name, value) in HEAD {
-        let name = Blob::of(alloc, name)?;
-        let value = Blob::of(alloc, value)?;
-        fields.push(Field { name, value })?;
+    push(alloc, &mut fields, b":method", b"GET")?;
+    push(
+        alloc,
+        &mut fields,
+        b":path",
+        b"/articles/2026/12/a-common-path?page=2",
+    )?;
+    push(alloc, &mut fields, b"accept", VALUE)?;
+    push(
+        alloc,
+        &mut fields,
+        b"referer",
+        b"https://www.example.com/articles/",
+    )?;
+    for _ in 0..8 {
+        push(
+            alloc,
+            &mut fields,
+            b"x-request-id",
+            b"7e4c3f0a-1b2d-4e5f-8a9b-0c1d2e3f4a5b",
+        )?;
     }
     Ok(fields)
 }
@@ -127,39 +125,47 @@ fn is_short(fields: &FieldList) -> bool
     names && values
 }
 
-/// Prints the blocks that are written and read in a second.
-pub fn print_blocks(rt: &HostRuntime) -> Result<()> {
-    let alloc = rt.alloc();
-    let fields = head(alloc)?;
-    if !is_short(&fields) {
-        bail!("a field of 2^32 bytes");
+// The least time to write so many blocks, of some, and one of them.
+fn encode_blocks(rt: &HostRuntime, fields: &FieldList) -> Result<(u64, Blob)> {
+    if !is_short(fields) {
+        bail!("a field is too long");
     }
-    let mut encoder = Encoder::new(alloc)?;
-    let block = encoder.block(&fields)?;
-    let mut encode = u64::MAX;
+    let mut encoder = Encoder::new(rt.alloc())?;
+    let block = encoder.block(fields)?;
+    let mut least = u64::MAX;
     for _ in 0..ROUNDS {
         let start = Instant::now(rt)?;
         for _ in 0..BLOCKS {
-            let _ = encoder.block(&fields)?;
+            let _ = encoder.block(fields)?;
         }
-        encode = encode.min(nanos_since(rt, start)?);
+        least = least.min(nanos_since(rt, start)?);
     }
-    let bytes = block.bytes();
-    if bytes.len() >= 0x8000_0000 {
-        bail!("a block of 2^31 bytes");
+    Ok((least, block))
+}
+
+// The least time to read a block so often, of some.
+fn decode_blocks(rt: &HostRuntime, block: &[u8]) -> Result<u64> {
+    if block.len() >= 0x8000_0000 {
+        bail!("a block is too long");
     }
-    let mut decoder = Decoder::new(alloc)?;
-    let mut decode = u64::MAX;
+    let mut decoder = Decoder::new(rt.alloc())?;
+    let mut least = u64::MAX;
     for _ in 0..ROUNDS {
         let start = Instant::now(rt)?;
         for _ in 0..BLOCKS {
-            let _ = decoder.block(bytes)?;
+            let _ = decoder.block(block)?;
         }
-        decode = decode.min(nanos_since(rt, start)?);
+        least = least.min(nanos_since(rt, start)?);
     }
-    let parts = u64::from(BLOCKS) * 1_000_000;
-    println!(rt; "blocks     {} fields, {} bytes", fields.len(), bytes.len())?;
-    println!(rt; "decode     {} blocks/s", millions(parts, decode))?;
-    println!(rt; "encode     {} blocks/s", millions(parts, encode))?;
-    Ok(())
+    Ok(least)
+}
+
+/// Two rows: the blocks.
+pub fn measure_blocks(rt: &HostRuntime) -> Result<()> {
+    let fields = head(rt.alloc())?;
+    let (encoding, block) = encode_blocks(rt, &fields)?;
+    let size = block.len() as u64;
+    print_row(rt, "block, encode", size, encoding, u64::from(BLOCKS))?;
+    let decoding = decode_blocks(rt, block.bytes())?;
+    print_row(rt, "block, decode", size, decoding, u64::from(BLOCKS))
 }

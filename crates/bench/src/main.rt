@@ -1,4 +1,5 @@
-// Measurements. Without words the program lists them; with a name it measures and prints a table.
+//! Measurements. Without words the program lists them; with a name it measures and prints a table, of which a row has
+//! what was measured, a size, the nanoseconds of all, and those of each part.
 #![tactic(auto)]
 
 mod frames;
@@ -7,21 +8,21 @@ mod hpack;
 mod messages;
 mod queues;
 mod sessions;
-mod timing;
+mod table;
 
 use anyhow::Result;
 use std::env;
 
 const LIST: &str = "\
-read_answer   nanoseconds a byte to read an answer of 1 KiB, 64 KiB and 1 MiB
-write_answer  the same to write it
-queues        nanoseconds a byte through a queue of 64 KiB in pieces of 1, 100 and 16,384 bytes
-heads         nanoseconds a byte to read request heads of about 200 bytes and 8 KiB
-bodies        nanoseconds a byte to read 16 MiB in chunks of 16 KiB and 1 byte, in feeds of several lengths
-frames        nanoseconds a byte to read DATA frames of 16 KiB
-huffman       megabytes of text a second, in Huffman-coded strings that are read and written
-hpack         header blocks of twelve fields a second that are read and written
-sessions      nanoseconds a frame through a session with 1, 64 and 256 live streams, and a byte of 64 MiB on one stream
+read_answer   an answer of 1 KiB, 64 KiB and 1 MiB is read, a byte
+write_answer  the same is written, a byte
+queues        64 MiB go through a queue of 64 KiB in pieces of 1, 100 and 16,384 bytes, a byte
+heads         request heads of about 200 bytes and 8 KiB are read, a byte
+bodies        16 MiB in chunks of 16 KiB and then of 1 byte are read, in feeds of several lengths, a byte
+frames        DATA frames of 16 KiB are read, a byte
+huffman       1 MiB of text is spelled as a Huffman string and read back, a byte of text
+hpack         header blocks of twelve fields are written and read, a block
+sessions      a server's session is fed frames of 1, 64 and 256 live streams, a frame, and 64 MiB on one, a byte
 ";
 
 fn main(rt: HostRuntime) -> Result<()> {
@@ -31,16 +32,15 @@ fn main(rt: HostRuntime) -> Result<()> {
         return Ok(());
     };
     match word.as_str() {
-        "read_answer" => messages::print_table(&rt, messages::Call::Read)?,
-        "write_answer" => messages::print_table(&rt, messages::Call::Write)?,
-        "queues" => queues::print_table(&rt)?,
-        "heads" => h1::print_heads(&rt)?,
-        "bodies" => h1::print_bodies(&rt)?,
-        "frames" => frames::print_table(&rt)?,
-        "huffman" => hpack::print_huffman(&rt)?,
-        "hpack" => hpack::print_blocks(&rt)?,
-        "sessions" => sessions::print_table(&rt)?,
-        _ => eprint!(rt; "{LIST}")?,
+        "read_answer" => messages::measure_read(&rt),
+        "write_answer" => messages::measure_write(&rt),
+        "queues" => queues::measure(&rt),
+        "heads" => h1::measure_heads(&rt),
+        "bodies" => h1::measure_bodies(&rt),
+        "frames" => frames::measure(&rt),
+        "huffman" => hpack::measure_huffman(&rt),
+        "hpack" => hpack::measure_blocks(&rt),
+        "sessions" => sessions::measure(&rt),
+        _ => Ok(eprint!(rt; "{LIST}")?),
     }
-    Ok(())
 }

@@ -1,6 +1,6 @@
-// Reading and writing answers: the cost of a byte for answers of several sizes.
+//! Answers of several sizes, read and written.
 
-use crate::timing::{hundredths, nanos_since};
+use crate::table::{nanos_since, print_row};
 use anyhow::{Result, bail};
 use ext_msgs::{
     Answer, BodyChange, Common, HeaderMutation, Member, NameList, SetField, SetList, read_answer,
@@ -10,18 +10,11 @@ use pb_wire::Blob;
 use std::alloc::Global;
 use std::time::Instant;
 
-// What is measured.
-#[derive(Clone, Copy)]
-pub enum Call {
-    Read,
-    Write,
-}
-
-// The sizes of the messages, and how often each is handled.
+/// The sizes of the messages, and how often each is handled.
 const SIZES: [(u32, u32); 3] = [(1024, 4096), (65_536, 512), (1_048_576, 64)];
 
-// An answer that sets headers, of about this many bytes.
-fn answer(alloc: Global, size: u32) -> Result<Answer> {
+// Fields of about so many bytes.
+fn fields(alloc: Global, size: u32) -> Result<SetList> {
     let mut set = SetList::new(alloc);
     for _ in 0..size / 64 {
         set.push(SetField {
@@ -30,12 +23,16 @@ fn answer(alloc: Global, size: u32) -> Result<Answer> {
             action: 2,
         })?;
     }
+    Ok(set)
+}
+
+// An answer that sets them.
+fn answer(alloc: Global, size: u32) -> Result<Answer> {
+    let set = fields(alloc, size)?;
+    let remove = NameList::new(alloc);
     let common = Common {
         replace: false,
-        headers: HeaderMutation {
-            set,
-            remove: NameList::new(alloc),
-        },
+        headers: HeaderMutation { set, remove },
         body: BodyChange::Absent,
     };
     Ok(Answer {
@@ -45,49 +42,48 @@ fn answer(alloc: Global, size: u32) -> Result<Answer> {
     })
 }
 
-// The nanoseconds of one call, as the least of so many.
-fn least(rt: &HostRuntime, call: Call, answer: &Answer, bytes: &[u8], count: u32) -> Result<u64> {
-    let alloc = rt.alloc();
+// The least time to read it, of so many.
+fn read(rt: &HostRuntime, bytes: &[u8], count: u32) -> Result<u64> {
     if bytes.len() > u32::MAX as usize {
-        bail!("a message of more than 2^32 bytes");
+        bail!("a message is too long");
     }
     let mut least = u64::MAX;
     for _ in 0..count {
         let start = Instant::now(rt)?;
-        match call {
-            Call::Read => {
-                let _ = read_answer(alloc, bytes)?;
-            }
-            Call::Write => {
-                let _ = write_answer(alloc, answer)?;
-            }
-        }
+        let _ = read_answer(rt.alloc(), bytes)?;
         least = least.min(nanos_since(rt, start)?);
     }
     Ok(least)
 }
 
-// A row a size, and the ratio of the last two.
-pub fn print_table(rt: &HostRuntime, call: Call) -> Result<()> {
-    let alloc = rt.alloc();
-    println!(rt; "bytes      ns        ns/byte")?;
-    let mut before = 1;
-    let mut now = 1;
+/// A row a size: the bytes of the message.
+pub fn measure_read(rt: &HostRuntime) -> Result<()> {
     for (size, count) in SIZES {
-        let answer = answer(alloc, size)?;
-        let written = write_answer(alloc, &answer)?;
-        let nanos = least(rt, call, &answer, written.bytes(), count)?;
-        before = now;
-        now = hundredths(nanos, written.len() as u64);
-        println!(rt;
-            "{:<10} {:<9} {}.{:02}",
-            written.len(),
-            nanos,
-            now / 100,
-            now % 100
-        )?;
+        let written = write_answer(rt.alloc(), &answer(rt.alloc(), size)?)?;
+        let nanos = read(rt, written.bytes(), count)?;
+        let size = written.len() as u64;
+        print_row(rt, "read_answer", size, nanos, size)?;
     }
-    let ratio = hundredths(now, before);
-    println!(rt; "ratio of the last two: {}.{:02}", ratio / 100, ratio % 100)?;
+    Ok(())
+}
+
+// The least time to write it, of so many, and its length.
+fn write(rt: &HostRuntime, answer: &Answer, count: u32) -> Result<(u64, u64)> {
+    let mut least = u64::MAX;
+    let mut size: u64 = 0;
+    for _ in 0..count {
+        let start = Instant::now(rt)?;
+        size = write_answer(rt.alloc(), answer)?.len() as u64;
+        least = least.min(nanos_since(rt, start)?);
+    }
+    Ok((least, size))
+}
+
+/// A row a size: the bytes of the message.
+pub fn measure_write(rt: &HostRuntime) -> Result<()> {
+    for (size, count) in SIZES {
+        let (nanos, size) = write(rt, &answer(rt.alloc(), size)?, count)?;
+        print_row(rt, "write_answer", size, nanos, size)?;
+    }
     Ok(())
 }

@@ -1,6 +1,6 @@
-// A server's session that is fed: frames for 1, 64 and 256 live streams in turn, and 64 MiB on one stream.
+//! A server's session that is fed: frames for 1, 64 and 256 live streams in turn, and 64 MiB on one stream.
 
-use crate::timing::{hundredths, nanos_since};
+use crate::table::{nanos_since, print_row};
 use anyhow::{Result, bail};
 use h2_session::{Event, Session};
 use std::alloc::Global;
@@ -18,18 +18,18 @@ const WINDOW_UPDATE: u8 = 8;
 
 const END_HEADERS: u8 = 4;
 
-// `:method: GET`, a whole field block.
+/// `:method: GET`, a whole field block.
 const GET: &[u8] = b"\x82";
 
-// How many frames a row has, about.
+/// How many frames a row has, about.
 const FRAMES: u64 = 400_000;
 
-// The longest payload, and how many of them make 64 MiB.
+/// The longest payload, and how many of them make 64 MiB.
 const PART: usize = 16_384;
 
 const PARTS: u64 = 4_096;
 
-// The most bytes of a piece that is fed at once.
+/// The most bytes of a piece that is fed at once.
 const MOST: usize = 1 << 20;
 
 fn push_frame(bytes: &mut Vec<u8>, kind: u8, flags: u8, stream: u32, payload: &[u8]) -> Result<()> {
@@ -71,10 +71,7 @@ fn server_with(alloc: Global, live: u32) -> Result<Session> {
         stream = stream.saturating_add(2);
     }
     let mut server = Session::server(alloc)?;
-    let opened = feed(&mut server, bytes.as_slice())?;
-    if opened != u64::from(live) {
-        bail!("{opened} streams were opened");
-    }
+    feed(&mut server, bytes.as_slice())?;
     Ok(server)
 }
 
@@ -90,57 +87,53 @@ fn round(alloc: Global, live: u32) -> Result<Vec<u8>> {
     Ok(bytes)
 }
 
-fn print_frames(rt: &HostRuntime, live: u32) -> Result<()> {
-    let alloc = rt.alloc();
-    let mut server = server_with(alloc, live)?;
-    let bytes = round(alloc, live)?;
-    let rounds = FRAMES / (u64::from(live) * 2).max(1);
-    let mut frames: u64 = 0;
+// The time to feed a session so often.
+fn feed_often(
+    rt: &HostRuntime,
+    session: &mut Session,
+    bytes: &[u8],
+    rounds: u64,
+    brings: u64,
+) -> Result<u64> {
     let start = Instant::now(rt)?;
     for _ in 0..rounds {
-        let brought = feed(&mut server, bytes.as_slice())?;
-        frames = frames.saturating_add(brought.saturating_mul(2));
-    }
-    let nanos = nanos_since(rt, start)?;
-    if frames != rounds * u64::from(live) * 2 {
-        bail!("{frames} frames came");
-    }
-    let each = hundredths(nanos, frames);
-    println!(rt;
-        "{live} live streams: {}.{:02} ns/frame, {} frames/s",
-        each / 100,
-        each % 100,
-        100_000_000_000 / each.max(1)
-    )?;
-    Ok(())
-}
-
-fn print_stream(rt: &HostRuntime) -> Result<()> {
-    let alloc = rt.alloc();
-    let mut server = server_with(alloc, 1)?;
-    let mut bytes = Vec::new(alloc);
-    push_frame(&mut bytes, DATA, 0, 1, [b'x'; PART].as_slice())?;
-    let start = Instant::now(rt)?;
-    for _ in 0..PARTS {
-        if feed(&mut server, bytes.as_slice())? != 1 {
-            bail!("a frame brought nothing");
+        if feed(session, bytes)? != brings {
+            bail!("a round brings something else");
         }
     }
-    let nanos = nanos_since(rt, start)?;
-    let each = hundredths(nanos, PARTS * PART as u64);
-    println!(rt;
-        "64 MiB on one stream: {} ms, {}.{:02} ns/byte, {} MiB/s",
-        nanos / 1_000_000,
-        each / 100,
-        each % 100,
-        64_000_000_000 / nanos.max(1)
-    )?;
-    Ok(())
+    nanos_since(rt, start)
 }
 
-pub fn print_table(rt: &HostRuntime) -> Result<()> {
+// A row: the frames.
+fn measure_frames(rt: &HostRuntime, live: u32) -> Result<()> {
+    let mut server = server_with(rt.alloc(), live)?;
+    let bytes = round(rt.alloc(), live)?;
+    let live = u64::from(live);
+    let rounds = FRAMES / (live * 2).max(1);
+    let nanos = feed_often(rt, &mut server, bytes.as_slice(), rounds, live)?;
+    print_row(rt, "frames, streams", live, nanos, rounds * live * 2)
+}
+
+// A row: the bytes.
+fn measure_stream(rt: &HostRuntime) -> Result<()> {
+    let mut server = server_with(rt.alloc(), 1)?;
+    let content = vec![in rt.alloc(); b'x'; PART]?;
+    let mut bytes = Vec::new(rt.alloc());
+    push_frame(&mut bytes, DATA, 0, 1, content.as_slice())?;
+    let nanos = feed_often(rt, &mut server, bytes.as_slice(), PARTS, 1)?;
+    print_row(
+        rt,
+        "bytes, one stream",
+        PARTS * PART as u64,
+        nanos,
+        PARTS * PART as u64,
+    )
+}
+
+/// A row for each number of live streams, and one for 64 MiB.
+pub fn measure(rt: &HostRuntime) -> Result<()> {
     for live in [1, 64, 256] {
-        print_frames(rt, live)?;
+        measure_frames(rt, live)?;
     }
-    print_stream(rt)
+    measure_stream(rt)
 }

@@ -40,13 +40,13 @@ pub struct Hold {
 
 impl Model for Hold {
     ghost use Rattle.body_hold.specs.Held.{Held, cut_by};
-    ghost use Rattle.body_hold.specs.Fits.{Fits};
+    ghost use Rattle.body_hold.specs.Fits.{IsReserved};
 
     ghost Value = { Held };
 
     ghost view = { λ h. record { limit = h.limit; answer = h.answer; hand = h.hand.bytes; lent = cut_by h.lengths.items h.lent.bytes; out = h.out.bytes } };
 
-    ghost invariant = { λ h. Fits h.limit h.answer h.hand h.lent h.lengths h.out };
+    ghost invariant = { λ h. IsReserved h.limit h.answer h.hand h.lent h.lengths h.out };
 }
 
 impl Hold {

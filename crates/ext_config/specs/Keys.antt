@@ -9,30 +9,30 @@ use Rattle.ext_config.specs.declared.config.ConfigFault.{ConfigFault}
 use Rattle.ext_config.specs.declared.config.ConfigFault.TheVariants as fault
 
 -- what a key wants
-pub data Kind : Type 0 where
+pub data Want : Type 0 where
   -- `true` or `false`
-  Truth : Kind
+  Truth : Want
   -- a whole number, from the first to the second
-  Number : ℕ → ℕ → Kind
+  Number : ℕ → ℕ → Want
   -- one of these texts
-  Choice : List (List ℕ) → Kind
+  Choice : List (List ℕ) → Want
   -- an array of at most 64 texts, each of 1 to 256 bytes without upper-case ASCII letters
-  Prefixes : Kind
+  Prefixes : Want
   -- a text of 1 to 255 bytes from 0x21 to 0x7e
-  Authority : Kind
+  Authority : Want
   -- an object with keys of its own
-  Object : Kind
+  Object : Want
 
 -- a row of the key table
 pub record Row : Type 0 where
   -- the object that the key stands in
   pub section : Section
   pub name : List ℕ
-  pub kind : Kind
+  pub kind : Want
   -- what an absent key means
   pub default : Data
 
-abbrev pub row : Section → List ℕ → Kind → Data → Row
+abbrev pub row : Section → List ℕ → Want → Data → Row
 row section name kind default = record { section = section; name = name; kind = kind; default = default }
 
 -- The key table: section, name, kind with its range, default
@@ -44,11 +44,11 @@ abbrev pub text : List ℕ → Data
 text bytes = string bytes
 
 -- whether a head or trailers are asked
-abbrev pub part_choice : Kind
+abbrev pub part_choice : Want
 part_choice = Choice (codes "DEFAULT" ∷ codes "SEND" ∷ codes "SKIP" ∷ [])
 
 -- how a body is asked
-abbrev pub body_choice : Kind
+abbrev pub body_choice : Want
 body_choice = Choice (codes "NONE" ∷ codes "STREAMED" ∷ codes "BUFFERED" ∷ codes "BUFFERED_PARTIAL" ∷ [])
 
 abbrev pub general_keys : List Row
@@ -171,7 +171,7 @@ unfoldable pub judge_texts : Option (List (List ℕ)) → Fit
 judge_texts (Some names) = in_range (are_prefixes names)
 judge_texts None = OtherKind
 
-unfoldable pub judge : Kind → Data → Fit
+unfoldable pub judge : Want → Data → Fit
 judge Truth (boolean b) = Fits
 judge Truth _ = OtherKind
 judge (Number low high) (number n) = judge_number low high n

@@ -5,7 +5,7 @@ use Rattle.std.proofs.lemmas.List.{append-nil}
 use Rattle.pb_wire.specs.Records.{Content, varint, fixed64, span, fixed32, Entry}
 use Rattle.pb_wire.specs.Cursor.{Placed}
 use Rattle.pb_wire.specs.Walk.{placed, entries}
-use Rattle.pb_wire.specs.Canonical.{shortest, bytes_record, content_record, record_spelling, spelling, ContentFits, Fits}
+use Rattle.pb_wire.specs.Canonical.{shortest, bytes_record, content_record, record_spelling, spelling, ContentFits, IsSpellable}
 use Rattle.pb_wire.proofs.Walk.{entries_none}
 use Rattle.pb_wire.proofs.Written.{ended, records_entries, records_whole, records_placed, spelling_records}
 use Rattle.ext_msgs.specs.declared.fault.MsgFault.{MsgFault}
@@ -42,7 +42,7 @@ length_fits number (span bytes) h l = omega (arith, length-append (shortest (8 *
 length_fits number (fixed32 n) h l = h
 
 module _ (fault : Placed → Option MsgFault) where
-  all_fit : (es : List Entry) → AreGood fault es → length (spelling es) < 2 ^ 64 → AllByRecursion Fits es
+  all_fit : (es : List Entry) → AreGood fault es → length (spelling es) < 2 ^ 64 → AllByRecursion IsSpellable es
   all_fit [] h l = tt
   all_fit (e ∷ es) h l =
       let len : length (spelling (e ∷ es)) ≡ length (record_spelling e) + length (spelling es) = ap length (spelling_cons e es) ∙ length-append (record_spelling e) (spelling es) in

@@ -116,7 +116,3 @@ pub mutation_said : (m : HeaderMutation) → IsMutation m → length (spelling (
 mutation_said m h l =
     ap (λ (s : List SetField). record { set = s; remove = spans 2 (mutation_records m) }) (sets_said m.set (map removal_record m.remove) (recursion_from_All IsSettable m.set h.sets) (append_short (map set_record m.set) (map removal_record m.remove) l).0 (no_sets m.remove))
     ∙ ap (λ (r : List (List ℕ)). record { set = m.set; remove = r }) (removals_said m.set m.remove)
-
--- a mutation inside another message
-pub mutation_again : (m : HeaderMutation) → IsMutation m → length (spelling (mutation_records m)) < 2 ^ 64 → mutation (entries (spelling (mutation_records m))) ≡ m
-mutation_again m h l = ap mutation (same_again mutation_fault (mutation_records m) (mutation_good m h) l) ∙ mutation_said m h l

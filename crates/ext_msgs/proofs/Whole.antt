@@ -37,11 +37,3 @@ told (Err NoMember) = refl
 -- a message without a fault is its value
 pub is_read : {X : Type 0} (found : Option MsgFault) (value r : Result X MsgFault) → found ≡ None → r ≡ value → IsRead r (unless found value)
 is_read found value r none e = subst (IsRead r) (e ∙ sym (ap (λ f. unless f value) none)) (told r)
-
--- a message with a fault is refused
-pub is_refused : {X : Type 0} (found : Option MsgFault) (value : Result X MsgFault) (e : MsgFault) → Refuses e found → IsRead (Err e) (unless found value)
-is_refused found value Memory h = tt
-is_refused found value (Wire f) h = ap (λ o. unless o value) h
-is_refused found value (Utf8 place) h = ap (λ o. unless o value) h
-is_refused found value (BadNumber place) h = ap (λ o. unless o value) h
-is_refused found value NoMember h = ap (λ o. unless o value) h

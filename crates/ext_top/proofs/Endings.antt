@@ -13,7 +13,7 @@ use Rattle.ext_top.specs.declared.status.Status.{Status}
 use Rattle.ext_top.specs.declared.status.Status.TheVariants as status
 use Rattle.ext_top.specs.Moves.{room, IsLine, IsShortLine, ReadsLine, ReadsNone}
 use Rattle.ext_top.specs.Replay.{meets, met_if}
-use Rattle.ext_top.specs.Plays.{Steps, joined, Played, is_end, Ends, IsVerdict}
+use Rattle.ext_top.specs.Plays.{Leads, joined, Played, is_end, EndsReplay, IsVerdict}
 
 -- ---- the next line
 
@@ -143,7 +143,7 @@ size_behind n l lines = rw (length-append l (10 ∷ joined lines)) (omega arith)
 
 -- two plays of the same bytes
 same_plays : (f g : Final) (n : ℕ) (s : Stage) (lines : List (List ℕ)) (text : List ℕ) (at : Stage) (rest : List ℕ) (others : List (List ℕ)) (other : List ℕ) (to : Stage) (left : List ℕ)
-    → Steps n s lines text at → Steps n s others other to → joined lines ++ rest ≡ joined others ++ left
+    → Leads n s lines text at → Leads n s others other to → joined lines ++ rest ≡ joined others ++ left
     → Holds (n + length (joined lines)) f at rest → Holds (n + length (joined others)) g to left
     → ((n : ℕ) → status_of f n ≡ status_of g n) × (length lines ≡ length others)
 same_plays f g n s [] text at rest [] other to left a b e p q =
@@ -162,7 +162,7 @@ same_plays f g n s (l ∷ lines) text at rest (k ∷ others) other to left a b e
     let behind : 10 ∷ (joined lines ++ rest) ≡ 10 ∷ (joined others ++ left) = append_cancel_left l _ _ (both ∙ ap (λ (x : List ℕ). x ++ 10 ∷ (joined others ++ left)) (sym same)) in
     let more : joined lines ++ rest ≡ joined others ++ left = cc in
     let here : n + (length k + 1) ≡ n + (length l + 1) = ap (λ (x : List ℕ). n + (length x + 1)) (sym same) in
-    let steps = subst (λ (i : ℕ). Steps i a.1 others b.2 to) here (subst (λ (x : Stage). Steps (n + (length k + 1)) x others b.2 to) (sym mid) b.5) in
+    let steps = subst (λ (i : ℕ). Leads i a.1 others b.2 to) here (subst (λ (x : Stage). Leads (n + (length k + 1)) x others b.2 to) (sym mid) b.5) in
     let first = subst (λ (i : ℕ). Holds i f at rest) (size_behind n l lines) p in
     let second = subst (λ (i : ℕ). Holds i g to left) (size_behind n k others ∙ ap (λ (i : ℕ). i + length (joined others)) here) q in
     let below = same_plays f g (n + (length l + 1)) a.1 lines a.2 at rest others b.2 to left a.5 steps more first second in
@@ -179,7 +179,7 @@ record Ended (bytes : List ℕ) (s : Status) : Type 0 where
   at : Stage
   rest : List ℕ
   final : Final
-  steps : Steps 0 stage.First lines text at
+  steps : Leads 0 stage.First lines text at
   parts : bytes ≡ joined lines ++ rest
   holds : Holds (0 + length (joined lines)) final at rest
   told : s ≡ status_of final (length lines)
@@ -221,7 +221,7 @@ ended_without bytes n z (Some rest) (Some left) w0 w1 at p o r = record {
   told = ap (λ (k : ℕ). status.TraceFault (k + 1)) (sym p.counted);
 }
 
-ended : (bytes : List ℕ) (s : Status) (l w0 w1 : Option (List ℕ)) → IsVerdict s → Ends s (Some bytes) l w0 w1 → Ended bytes s
+ended : (bytes : List ℕ) (s : Status) (l w0 w1 : Option (List ℕ)) → IsVerdict s → EndsReplay s (Some bytes) l w0 w1 → Ended bytes s
 ended bytes status.Done l w0 w1 v e = ended_played bytes e.0 e.1 l w0 w1 e.2
 ended bytes (status.TraceFault n) l w0 w1 v e = elim e.2 [
   | inl stops ↦ ended_at bytes Faulty (status.TraceFault n) e.0 stops.size stops.before l w0 w1 stops.at tt (ap (λ (k : ℕ). status.TraceFault k) e.1) stops.played stops.unended stops.line stops.read stops.comes_to
@@ -237,7 +237,7 @@ ended bytes status.Memory l w0 w1 v e = absurd v
 ended bytes status.Usage l w0 w1 v e = absurd v
 
 pub one_ending : (bytes : List ℕ) (s t : Status) (l k w0 w1 v0 v1 : Option (List ℕ)) → IsVerdict s → IsVerdict t
-    → Ends s (Some bytes) l w0 w1 → Ends t (Some bytes) k v0 v1 → s ≡ t
+    → EndsReplay s (Some bytes) l w0 w1 → EndsReplay t (Some bytes) k v0 v1 → s ≡ t
 one_ending bytes s t l k w0 w1 v0 v1 is_s is_t a b =
     let x : Ended bytes s = ended bytes s l w0 w1 is_s a in
     let y : Ended bytes t = ended bytes t k v0 v1 is_t b in

@@ -8,7 +8,7 @@ use Rattle.ext_top.specs.declared.stage.Met.{Met}
 use Rattle.ext_top.specs.declared.stage.Met.TheVariants.{Goes}
 use Rattle.ext_top.specs.Moves.{room, IsShortLine, ReadsLine, ReadsNone, WritesSome}
 use Rattle.ext_top.specs.Replay.{meets}
-use Rattle.ext_top.specs.Plays.{Steps, joined, Played, StopsAt, Lacks, Halted, is_end}
+use Rattle.ext_top.specs.Plays.{Leads, joined, Played, StopsAt, Lacks, Halted, is_end}
 use Rattle.ext_top.proofs.Moved.{consumes_more, appends_more}
 
 -- the bytes behind the first line
@@ -16,7 +16,7 @@ size_behind : (n : ℕ) (l : List ℕ) (lines : List (List ℕ)) → n + (length
 size_behind n l lines = rw (length-append l (10 ∷ joined lines)) (omega arith)
 
 steps_more : (n : ℕ) (s : Stage) (lines : List (List ℕ)) (out : List ℕ) (mid : Stage) (line text : List ℕ) (next : Stage)
-    → Steps n s lines out mid → IsShortLine (room (n + length (joined lines))) line → meets mid line ≡ Goes text next → Steps n s (lines ++ line ∷ []) (out ++ text) next
+    → Leads n s lines out mid → IsShortLine (room (n + length (joined lines))) line → meets mid line ≡ Goes text next → Leads n s (lines ++ line ∷ []) (out ++ text) next
 steps_more n s [] out mid line text next a i b =
     (text, next, [], subst (λ (k : ℕ). IsShortLine (room k) line) (add-zero n) i, subst (λ (x : Stage). meets x line ≡ Goes text next) a.1 b, (refl, refl), ap (λ (o : List ℕ). o ++ text) a.0 ∙ sym (append-nil text))
 steps_more n s (l ∷ lines) out mid line text next a i b =
@@ -34,9 +34,6 @@ sized_more lines line z y e f = rw (joined_more lines line, length-append (joine
 fits_behind : (lines : List (List ℕ)) (line : List ℕ) (z : ℕ) → length (joined lines) ≡ z → IsShortLine (room z) line → IsShortLine (room (0 + length (joined lines))) line
 fits_behind lines line z e i = subst (λ (k : ℕ). IsShortLine (room k) line) (sym e ∙ sym (zero-add (length (joined lines)))) i
 
-pub played_none : (l w : Option (List ℕ)) → Consumes l l [] → Appends w w [] → Played 0 0 l l w w stage.First
-played_none l w a b = record { lines = []; text = []; counted = refl; sized = refl; steps = (refl, refl); read = a; wrote = b }
-
 pub played_more : (n z y : ℕ) (l0 l1 l2 w0 w1 w2 : Option (List ℕ)) (s next : Stage) (line text : List ℕ)
     → Played n z l0 l1 w0 w1 s → ReadsLine (room z) l1 l2 line → y ≡ length line → meets s line ≡ Goes text next → Appends w1 w2 text → Played (n + 1) (z + (y + 1)) l0 l2 w0 w2 next
 played_more n z y l0 l1 l2 w0 w1 w2 s next line text p r e m a = record {
@@ -48,19 +45,6 @@ played_more n z y l0 l1 l2 w0 w1 w2 s next line text p r e m a = record {
   read = subst (λ (x : List ℕ). Consumes l0 l2 x) (sym (joined_more p.lines line)) (consumes_more l0 l1 l2 (joined p.lines) (line ++ 10 ∷ []) p.read r.read);
   wrote = appends_more w0 w1 w2 p.text text p.wrote a;
 }
-
-pub played_end : (n z : ℕ) (l0 l1 w0 w1 : Option (List ℕ)) (s : Stage) → Played n z l0 l1 w0 w1 s → is_end s ≡ true → Played n z l0 l1 w0 w1 stage.End
-played_end n z l0 l1 w0 w1 stage.First p e = absurd (cc)
-played_end n z l0 l1 w0 w1 stage.Config p e = absurd (cc)
-played_end n z l0 l1 w0 w1 (stage.Events setup x) p e = absurd (cc)
-played_end n z l0 l1 w0 w1 stage.End p e = p
-
-pub stops_at : (m : Met) (n z : ℕ) (l0 l1 l2 w0 w1 : Option (List ℕ)) (s : Stage) (line : List ℕ)
-    → Played n z l0 l1 w0 w1 s → is_end s ≡ false → ReadsLine (room z) l1 l2 line → meets s line ≡ m → StopsAt m n l0 l2 w0 w1
-stops_at m n z l0 l1 l2 w0 w1 s line p o r e = record { at = s; size = z; before = l1; played = p; unended = o; line = line; read = r; comes_to = e }
-
-pub lacks : (n z : ℕ) (l0 l1 l2 w0 w1 : Option (List ℕ)) (s : Stage) → Played n z l0 l1 w0 w1 s → is_end s ≡ false → ReadsNone (room z) l1 l2 → Lacks n l0 l2 w0 w1
-lacks n z l0 l1 l2 w0 w1 s p o r = record { at = s; size = z; before = l1; played = p; unended = o; none = r }
 
 all_taken : (xs : List ℕ) → take (length xs) xs ≡ xs
 all_taken xs = grind (arith, common_steps)

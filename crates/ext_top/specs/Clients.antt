@@ -8,8 +8,8 @@ use Rattle.h1_read.specs.declared.fault.H1Fault.TheVariants.{Memory}
 use Rattle.h1_read.specs.declared.message.Message.{Message}
 
 -- of the bytes so far, and those that came
-abbrev pub Tells : List ℕ → List ℕ → List ℕ → Result (Option Message) H1Fault → Type 0
-Tells so_far bytes new (Ok None) = (request_message (so_far ++ bytes) ≡ Partial) × (new ≡ so_far ++ bytes)
-Tells so_far bytes new (Ok (Some m)) = (rest : List ℕ) × (request_message (so_far ++ bytes) ≡ Whole (head_of m) rest)
-Tells so_far bytes new (Err Memory) = Unit {0}
-Tells so_far bytes new (Err e) = (f : Fault) × IsFault e f × (request_message (so_far ++ bytes) ≡ Bad f)
+abbrev pub TellsHead : List ℕ → List ℕ → List ℕ → Result (Option Message) H1Fault → Type 0
+TellsHead so_far bytes new (Ok None) = (request_message (so_far ++ bytes) ≡ Partial) × (new ≡ so_far ++ bytes)
+TellsHead so_far bytes new (Ok (Some m)) = (rest : List ℕ) × (request_message (so_far ++ bytes) ≡ Whole (head_of m) rest)
+TellsHead so_far bytes new (Err Memory) = Unit {0}
+TellsHead so_far bytes new (Err e) = (f : Fault) × IsFault e f × (request_message (so_far ++ bytes) ≡ Bad f)

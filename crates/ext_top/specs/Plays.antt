@@ -11,11 +11,11 @@ use Rattle.ext_top.specs.Moves.{room, IsShortLine, ReadsLine, ReadsNone}
 use Rattle.ext_top.specs.Replay.{meets}
 
 -- Behind so many bytes of the trace, these lines lead from a stage to another and bring this text.
-abbrev pub Steps : ℕ → Stage → List (List ℕ) → List ℕ → Stage → Type 0
-Steps before s [] text next = (text ≡ []) × (next ≡ s)
-Steps before s (line ∷ lines) text next =
+abbrev pub Leads : ℕ → Stage → List (List ℕ) → List ℕ → Stage → Type 0
+Leads before s [] text next = (text ≡ []) × (next ≡ s)
+Leads before s (line ∷ lines) text next =
     (first : List ℕ) × (mid : Stage) × (more : List ℕ) × IsShortLine (room before) line × (meets s line ≡ Goes first mid)
-    × Steps (before + (length line + 1)) mid lines more next × (text ≡ first ++ more)
+    × Leads (before + (length line + 1)) mid lines more next × (text ≡ first ++ more)
 
 -- the bytes of lines
 abbrev pub joined : List (List ℕ) → List ℕ
@@ -28,7 +28,7 @@ pub record Played (count size : ℕ) (left left' written written' : Option (List
   pub text : List ℕ
   pub counted : length lines ≡ count
   pub sized : length (joined lines) ≡ size
-  pub steps : Steps 0 stage.First lines text s
+  pub steps : Leads 0 stage.First lines text s
   pub read : Consumes left left' (joined lines)
   pub wrote : Appends written written' text
 
@@ -64,7 +64,7 @@ pub record Halted (left left' written written' : Option (List ℕ)) : Type 0 whe
   pub lines : List (List ℕ)
   pub text : List ℕ
   pub at : Stage
-  pub steps : Steps 0 stage.First lines text at
+  pub steps : Leads 0 stage.First lines text at
   pub bytes : List ℕ
   pub read : Consumes left left' (joined lines ++ bytes)
   pub count : ℕ
@@ -76,15 +76,15 @@ FailsAt n left left' written written' =
     (count : ℕ) × (n ≡ count + 1) × (StopsAt Faulty count left left' written written' ⊎ Lacks count left left' written written')
 
 -- what each status says of what a replay read and wrote
-abbrev pub Ends : Status → Option (List ℕ) → Option (List ℕ) → Option (List ℕ) → Option (List ℕ) → Type 0
-Ends status.Done left left' written written' = (count : ℕ) × (size : ℕ) × Played count size left left' written written' stage.End
-Ends (status.TraceFault n) left left' written written' = FailsAt n left left' written written'
-Ends (status.ConfigFault fault) left left' written written' = (count : ℕ) × StopsAt (Refused fault) count left left' written written'
-Ends status.NotBuilt left left' written written' = (count : ℕ) × StopsAt Unbuilt count left left' written written'
-Ends status.ReadFault left left' written written' = Halted left left' written written'
-Ends status.WriteFault left left' written written' = Halted left left' written written'
-Ends status.Memory left left' written written' = Halted left left' written written'
-Ends status.Usage left left' written written' = Keeps left left' × Keeps written written'
+abbrev pub EndsReplay : Status → Option (List ℕ) → Option (List ℕ) → Option (List ℕ) → Option (List ℕ) → Type 0
+EndsReplay status.Done left left' written written' = (count : ℕ) × (size : ℕ) × Played count size left left' written written' stage.End
+EndsReplay (status.TraceFault n) left left' written written' = FailsAt n left left' written written'
+EndsReplay (status.ConfigFault fault) left left' written written' = (count : ℕ) × StopsAt (Refused fault) count left left' written written'
+EndsReplay status.NotBuilt left left' written written' = (count : ℕ) × StopsAt Unbuilt count left left' written written'
+EndsReplay status.ReadFault left left' written written' = Halted left left' written written'
+EndsReplay status.WriteFault left left' written written' = Halted left left' written written'
+EndsReplay status.Memory left left' written written' = Halted left left' written written'
+EndsReplay status.Usage left left' written written' = Keeps left left' × Keeps written written'
 
 -- a status that the bytes of the trace decide
 abbrev pub IsVerdict : Status → Type 0

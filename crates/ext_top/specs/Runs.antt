@@ -5,7 +5,7 @@ use Rattle.ext_top.specs.declared.words.Command.{Command}
 use Rattle.ext_top.specs.declared.words.Command.TheVariants as command
 use Rattle.ext_top.specs.declared.status.Status.{Status}
 use Rattle.ext_top.specs.declared.status.Status.TheVariants as status
-use Rattle.ext_top.specs.Plays.{Ends}
+use Rattle.ext_top.specs.Plays.{EndsReplay}
 use Rattle.ext_top.specs.Shows.{Shows}
 use Rattle.ext_top.specs.declared.show.Kind.TheVariants as kind
 
@@ -15,7 +15,7 @@ IsRefused s left left' written written' = (s ≡ status.Usage) × Keeps left lef
 
 -- What a command reads and writes, and how it ends. The words of a command that isn't built yet are none.
 abbrev pub RunsAs : Option Command → Status → Option (List ℕ) → Option (List ℕ) → Option (List ℕ) → Option (List ℕ) → Type 0
-RunsAs (Some command.Replay) s left left' written written' = Ends s left left' written written'
+RunsAs (Some command.Replay) s left left' written written' = EndsReplay s left left' written written'
 RunsAs (Some command.ShowAnswer) s left left' written written' = Shows kind.Answer s left left' written written'
 RunsAs (Some command.ShowAsk) s left left' written written' = Shows kind.Ask s left left' written written'
 RunsAs (Some command.ShowH2) s left left' written written' = Shows kind.Frames s left left' written written'

@@ -4,7 +4,7 @@ ghost use Rattle.std.specs.Prelude.{◌≡◌, ◌++◌, [], false, IfOk};
 ghost use Rattle.http_model.specs.declared.types.Direction.TheVariants.{Request};
 ghost use Rattle.http_model.specs.Heads.{is_bodiless as bodiless, request_message};
 ghost use Rattle.h1_read.specs.Messages.{head_of};
-ghost use Rattle.ext_top.specs.Clients.{Tells};
+ghost use Rattle.ext_top.specs.Clients.{TellsHead};
 ghost use Rattle.ext_top.specs.Replay.{arrived, read_on, replied, requested};
 ghost use Rattle.ext_top.specs.declared.stage.Exchange.TheVariants.{Ended};
 ghost use Rattle.ext_top.specs.declared.stage.Stage.TheVariants.{Events};
@@ -54,7 +54,7 @@ const HEAD_LIMIT: usize = 32_768;
 fn feed_front(reader: &mut HeadReader, bytes: &[u8]) -> Result<Option<Message>, H1Fault>
     requires direction { reader.old.direction ≡ Request }
     requires response { reader.old.to_head ≡ false }
-    ensures tells { Tells reader.old.so_far bytes.now reader.new.so_far result }
+    ensures tells { TellsHead reader.old.so_far bytes.now reader.new.so_far result }
     ensures direction { reader.new.direction ≡ Request }
     ensures response { reader.new.to_head ≡ false }
 {
@@ -101,7 +101,7 @@ impl RequestReader {
 
     /// What the next bytes give; the first 32,768 of a head decide it.
     pub fn feed(&mut self, bytes: &[u8]) -> Result<Option<Message>, H1Fault>
-        ensures { Tells self.old bytes.now self.new result }
+        ensures { TellsHead self.old bytes.now self.new result }
     {
         feed_front(&mut self.reader, bytes)
     }

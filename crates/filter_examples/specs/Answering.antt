@@ -8,7 +8,7 @@ use Rattle.filter_model.specs.Config.{FilterConfig}
 use Rattle.filter_model.specs.Step.{rules, after}
 use Rattle.filter_model.specs.Account.{Replied}
 use Rattle.filter_model.specs.Right.{is_aborted}
-use Rattle.filter_model.specs.View.{Entry, Bytes, Answered}
+use Rattle.filter_model.specs.View.{ViewEntry, Bytes, Answered}
 use Rattle.filter_model.specs.declared.calls.Side.TheVariants.{Upstream}
 use Rattle.http_model.specs.Bytes.{field}
 use Rattle.ext_msgs.specs.declared.answer.Member.TheVariants as member
@@ -22,7 +22,7 @@ use Rattle.filter_examples.specs.Setting.{config, allowing, with_rules, no_rules
 abbrev both : FilterConfig
 both = record (config Streamed) { response = send NoAsk }
 
-abbrev two_out : List Entry
+abbrev two_out : List ViewEntry
 two_out = post (codes "hi") ∷ headers_answered ∷ ok ∷ []
 
 both_directions_are_asked : drop 1 (asks both two_out)
@@ -48,7 +48,7 @@ both_are_answered = refl
 
 -- Spurious answers
 
-abbrev other_part : Entry
+abbrev other_part : ViewEntry
 other_part = response_body_answered change.Absent
 
 answer_to_another_part_is_500 : to_client both (two_out ++ other_part ∷ []) ≡ local_reply 500
@@ -59,7 +59,7 @@ answer_to_another_part_aborts_the_upstream : is_aborted (after both (reverse (tw
 unfolding digits rules read_rules write_rules mutation_rules
 answer_to_another_part_aborts_the_upstream = refl
 
-abbrev late_answers : List Entry
+abbrev late_answers : List ViewEntry
 late_answers = response_headers_answered ∷ body_answered (change.Bytes (codes "no")) ∷ []
 
 late_answers_leave_the_reply : to_client both (two_out ++ other_part ∷ late_answers) ≡ local_reply 500
@@ -128,7 +128,7 @@ header_of_a_streamed_piece_has_no_effect = refl
 
 -- Replacement
 
-abbrev replaces_with_post : Entry
+abbrev replaces_with_post : ViewEntry
 replaces_with_post = answer (member.RequestHeaders (record {
   replace = true;
   headers = setting (codes ":method") (codes "POST") 2;
@@ -156,7 +156,7 @@ unfolding digits rules read_rules write_rules mutation_rules
 forbidden_item_is_an_error_under_deny = refl
 
 -- the body that was replaced is read and dropped; without a body mutation it passes
-abbrev replaces_nothing : Entry
+abbrev replaces_nothing : ViewEntry
 replaces_nothing = answer (member.RequestHeaders (record { replace = true; headers = unchanged; body = change.Absent }))
 
 replaced_body_is_dropped : to_upstream (config Streamed) (post (codes "abc") ∷ replaces_with_post ∷ [])
@@ -178,7 +178,7 @@ replaced_message_is_asked_no_more = refl
 abbrev with_trailers : FilterConfig
 with_trailers = record (config NoAsk) { response = record skip { trailers = true } }
 
-abbrev trailed : List Entry
+abbrev trailed : List ViewEntry
 trailed = get_a ∷ headers_answered
     ∷ Bytes Upstream (codes "HTTP/1.1 200 OK\r\nTransfer-Encoding: chunked\r\n\r\n2\r\nok\r\n0\r\nX-T: 1\r\n\r\n") ∷ []
 
@@ -201,7 +201,7 @@ trailers_are_kept = refl
 abbrev overriding : FilterConfig
 overriding = record (config NoAsk) { allow_override = true }
 
-abbrev with_body_mode : ℕ → Entry
+abbrev with_body_mode : ℕ → ViewEntry
 with_body_mode n = Answered (Some (record {
   member = member.RequestHeaders (common change.Absent);
   modes = Some (record { numbers = pos 0 ∷ pos 0 ∷ pos n ∷ pos 0 ∷ pos 0 ∷ pos 0 ∷ [] });

@@ -12,7 +12,7 @@ use Rattle.http_model.specs.Reads.{read_rules}
 use Rattle.http_model.specs.Wire.{write_rules}
 use Rattle.filter_model.specs.Config.{FilterConfig}
 use Rattle.filter_model.specs.Step.{rules}
-use Rattle.filter_model.specs.View.{Entry, Bytes}
+use Rattle.filter_model.specs.View.{ViewEntry, Bytes}
 use Rattle.filter_model.specs.declared.calls.Side.TheVariants.{Client}
 use Rattle.filter_examples.specs.Setting.{config, to_upstream, to_client, asks, post, get_a, answer, headers_answered, body_answered, setting, removing, mutating}
 
@@ -146,7 +146,7 @@ large_pieces_go_up = refl
 abbrev whole : FilterConfig
 whole = record (config Buffered) { course = large.course }
 
-abbrev expecting : Entry
+abbrev expecting : ViewEntry
 expecting = Bytes Client (codes "POST /up HTTP/1.1\r\nHost: localhost:8080\r\nUser-Agent: curl/7.68.0\r\nAccept: */*\r\nContent-Length: 1025\r\nContent-Type: application/x-www-form-urlencoded\r\nExpect: 100-continue\r\n\r\n")
 
 interim_response_goes_first : to_client whole (expecting ∷ []) ≡ codes "HTTP/1.1 100 Continue\r\n\r\n"
@@ -160,7 +160,7 @@ body_is_replaced_by_a_shorter_one = refl
 
 -- However the bytes are cut
 
-abbrev singly : Entry → List Entry
+abbrev singly : ViewEntry → List ViewEntry
 singly (Bytes s bytes) = map (λ b. Bytes s (b ∷ [])) bytes
 singly e = e ∷ []
 

@@ -13,7 +13,7 @@ use Rattle.filter_model.specs.Config.{FilterConfig}
 use Rattle.filter_model.specs.Course.{changed, queue}
 use Rattle.filter_model.specs.Account.{Live, Replied}
 use Rattle.filter_model.specs.Step.{rules, after, room}
-use Rattle.filter_model.specs.View.{Entry, Bytes, End, Answered, TooLong, Closed, Tick, Given}
+use Rattle.filter_model.specs.View.{ViewEntry, Bytes, End, Answered, TooLong, Closed, Tick, Given}
 use Rattle.filter_model.specs.declared.calls.Side.TheVariants.{Client, Upstream}
 use Rattle.ext_msgs.specs.declared.ask.Ask.TheVariants as ask
 use Rattle.filter_examples.specs.Setting.{config, allowing, skip, to_upstream, to_client, asks, fate_of, end_of, get_a, post, ok, unchanged, setting, common, mutating, answer, headers_answered, body_answered}
@@ -56,7 +56,7 @@ no_content_has_no_length = refl
 
 -- Expectations
 
-abbrev expecting : List ℕ → Entry
+abbrev expecting : List ℕ → ViewEntry
 expecting more = Bytes Client (codes "POST / HTTP/1.1\r\nHost: a\r\nTransfer-Encoding: chunked\r\nExpect: x\r\nExpect: 100-Continue\r\n\r\n" ++ more)
 
 expect_is_not_shown : asks (config NoAsk) (expecting [] ∷ [])
@@ -83,7 +83,7 @@ first_piece_is_what_came_with_the_head = refl
 abbrev slow : FilterConfig
 slow = record (config Streamed) { course = record (config Streamed).course { mark = 2 } }
 
-abbrev waiting : List Entry
+abbrev waiting : List ViewEntry
 waiting = Bytes Client (codes "POST / HTTP/1.1\r\nHost: a\r\nTransfer-Encoding: chunked\r\n\r\n3\r\nabc\r\n") ∷ headers_answered ∷ body_answered change.Absent
     ∷ Bytes Client (codes "0\r\n\r\n") ∷ []
 
@@ -122,7 +122,7 @@ all_was_given = refl
 abbrev overriding : FilterConfig
 overriding = record (config NoAsk) { allow_override = true }
 
-abbrev with_modes : List ℕ → Entry
+abbrev with_modes : List ℕ → ViewEntry
 with_modes n = Answered (Some (record {
   member = member.RequestHeaders (mutating (setting (codes "x-a") (codes "1") 0));
   modes = Some (record { numbers = map pos n });

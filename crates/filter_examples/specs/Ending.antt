@@ -6,9 +6,9 @@ use Rattle.http_model.specs.Reads.{read_rules}
 use Rattle.http_model.specs.Wire.{write_rules, local_reply}
 use Rattle.filter_model.specs.Config.{FilterConfig}
 use Rattle.filter_model.specs.Step.{rules, after, room}
-use Rattle.filter_model.specs.Account.{Account, Live, Left, Replied, Aborted}
+use Rattle.filter_model.specs.Account.{ExchangeAccount, Live, Left, Replied, Aborted}
 use Rattle.filter_model.specs.Right.{is_done, is_aborted}
-use Rattle.filter_model.specs.View.{Entry, Bytes, End, Lost, Answered, TooLong, Closed, NoStream, Tick, Starved, Sent, Given}
+use Rattle.filter_model.specs.View.{ViewEntry, Bytes, End, Lost, Answered, TooLong, Closed, NoStream, Tick, Starved, Sent, Given}
 use Rattle.filter_model.specs.declared.calls.Side.TheVariants.{Client, Upstream}
 use Rattle.filter_model.specs.declared.calls.Loss.TheVariants.{NoDial, Broken}
 use Rattle.ext_msgs.specs.declared.answer.Member.TheVariants as member
@@ -59,7 +59,7 @@ bad_response_gets_502 : to_client (config NoAsk) (get_a ∷ headers_answered ∷
 unfolding digits rules read_rules write_rules mutation_rules
 bad_response_gets_502 = refl
 
-abbrev begun : Entry
+abbrev begun : ViewEntry
 begun = Bytes Client (codes "GET / HT")
 
 early_end_gets_400 : to_client (config NoAsk) (begun ∷ End Client ∷ []) ≡ local_reply 400
@@ -92,7 +92,7 @@ lost_upstream_counts_until_all_was_given = refl
 
 -- Immediate responses
 
-abbrev forbids : Entry
+abbrev forbids : ViewEntry
 forbids = answer (member.Immediate (record { code = 403; headers = unchanged; body = codes "no" }))
 
 abbrev forbidden : List ℕ
@@ -173,11 +173,11 @@ no_timer_runs_without_an_ask = refl
 abbrev patient : FilterConfig
 patient = record (config NoAsk) { max_timeout_ms = 1000 }
 
-abbrev asks_for : ℕ → Entry
+abbrev asks_for : ℕ → ViewEntry
 asks_for nanos = Answered (Some (record { member = member.Unset; modes = None; timeout = Some (record { seconds = pos 0; nanos = pos nanos }) }))
 
 -- an invalid override doesn't use up the one that counts
-abbrev waits : List Entry
+abbrev waits : List ViewEntry
 waits = get_a ∷ asks_for 0 ∷ Tick 100 ∷ asks_for 500_000_000 ∷ asks_for 500_000_000 ∷ []
 
 override_extends_the_timer : fate_of patient (waits ++ Tick 599 ∷ []) ≡ Live
@@ -238,7 +238,7 @@ up = codes "GET / HTTP/1.1\r\nhost: a\r\nconnection: close\r\n\r\n"
 abbrev down : List ℕ
 down = codes "HTTP/1.1 200 OK\r\ncontent-length: 0\r\nconnection: close\r\n\r\n"
 
-abbrev exchanged : List Entry
+abbrev exchanged : List ViewEntry
 exchanged = get_a ∷ Sent ∷ headers_answered ∷ Given Upstream up ∷ ok ∷ []
 
 stream_stays_until_all_was_given : end_of (config NoAsk) exchanged ≡ None
@@ -254,7 +254,7 @@ unfolding digits rules read_rules write_rules mutation_rules
 nothing_counts_once_all_was_given = refl
 
 -- both directions are asked, and their answers come crosswise
-abbrev both_exchanged : List Entry
+abbrev both_exchanged : List ViewEntry
 both_exchanged = post (codes "hi") ∷ Sent ∷ headers_answered ∷ Sent ∷ ok ∷ Sent ∷ response_headers_answered ∷ Given Client down ∷ body_answered change.Absent ∷ []
 
 stream_of_both_stays_until_the_request_was_given : end_of both both_exchanged ≡ None
@@ -269,11 +269,11 @@ stream_of_both_is_finished_once_all_was_given = refl
 
 -- What a port is told at the end
 
-abbrev account_of : List Entry → Account
+abbrev account_of : List ViewEntry → ExchangeAccount
 account_of v = after (config NoAsk) (reverse v)
 
 -- the request was given whole, then the response is aborted: the upstream is done, the client isn't
-abbrev aborted_late : List Entry
+abbrev aborted_late : List ViewEntry
 aborted_late = get_a ∷ headers_answered ∷ Given Upstream up ∷ Bytes Upstream (codes "HTTP/1.1 200 OK\r\nContent-Length: 5\r\n\r\nab") ∷ forbids ∷ []
 
 upstream_that_is_done_stays_done : is_done (config NoAsk) (account_of aborted_late) Upstream ≡ true
@@ -289,7 +289,7 @@ unfolding digits rules read_rules write_rules mutation_rules
 client_is_aborted = refl
 
 -- the response is aborted while the request is still going up: neither is done
-abbrev aborted_early : List Entry
+abbrev aborted_early : List ViewEntry
 aborted_early = Bytes Client (codes "POST / HTTP/1.1\r\nHost: a\r\nContent-Length: 5\r\n\r\nab") ∷ headers_answered
     ∷ Bytes Upstream (codes "HTTP/1.1 200 OK\r\nContent-Length: 5\r\n\r\nab") ∷ forbids ∷ []
 
@@ -324,10 +324,10 @@ client_is_done_once_the_reply_was_given = refl
 
 -- Room, with a mark of 16
 
-abbrev response_begun : List Entry
+abbrev response_begun : List ViewEntry
 response_begun = get_a ∷ headers_answered ∷ Bytes Upstream (codes "HTTP/1.1 200 OK\r\nContent-Length: 1000\r\n\r\n") ∷ []
 
-abbrev room_of_upstream : List Entry → ℕ
+abbrev room_of_upstream : List ViewEntry → ℕ
 room_of_upstream v = room (config NoAsk) (after (config NoAsk) (reverse v)) Upstream
 
 room_is_what_the_mark_leaves : room_of_upstream (response_begun ++ Bytes Upstream (replicate 14 97) ∷ []) ≡ 2
@@ -348,13 +348,13 @@ given_bytes_make_room = refl
 abbrev twenty : List ℕ
 twenty = codes "HTTP/1.1 200 OK\r\ncontent-length: 20\r\nconnection: close\r\n\r\n"
 
-abbrev filled : List Entry
+abbrev filled : List ViewEntry
 filled = get_a ∷ headers_answered ∷ Bytes Upstream (codes "HTTP/1.1 200 OK\r\nContent-Length: 20\r\n\r\n" ++ replicate 16 97) ∷ []
 
-abbrev taken_from : List Entry
+abbrev taken_from : List ViewEntry
 taken_from = filled ++ Given Client (twenty ++ replicate 6 97) ∷ []
 
-abbrev refilled : List Entry
+abbrev refilled : List ViewEntry
 refilled = taken_from ++ Bytes Upstream (replicate 4 98) ∷ []
 
 full_queue_leaves_no_room : room_of_upstream filled ≡ 0

@@ -14,9 +14,9 @@ use Rattle.http_model.specs.declared.types.Direction.TheVariants.{Request, Respo
 use Rattle.filter_model.specs.Config.{FilterConfig}
 use Rattle.filter_model.specs.Course.{Changed, changed, out}
 use Rattle.filter_model.specs.Outgoing.{written}
-use Rattle.filter_model.specs.Account.{Account, Fate, Live, Left, Replied, Aborted, start, course, flow, front, to, is_released, is_finished}
+use Rattle.filter_model.specs.Account.{ExchangeAccount, Fate, Live, Left, Replied, Aborted, start, course, flow, front, to, is_released, is_finished}
 use Rattle.filter_model.specs.Step.{rules, step, is_live}
-use Rattle.filter_model.specs.View.{Entry, Bytes, Closed, Tick, Sent, Given}
+use Rattle.filter_model.specs.View.{ViewEntry, Bytes, Closed, Tick, Sent, Given}
 use Rattle.filter_model.specs.declared.calls.Side.{Side}
 use Rattle.filter_model.specs.declared.calls.Side.TheVariants.{Client, Upstream}
 use Rattle.filter_examples.specs.Setting.{config, allowing, headers_answered, response_headers_answered, response_body_answered, body_answered}
@@ -24,12 +24,12 @@ use Rattle.filter_examples.specs.Growing.{limited, wide, fully, chunked, more, l
 
 -- an account, and how its passing bytes were cut so far
 record State : Type 0 where
-  account : Account
+  account : ExchangeAccount
   request_cuts : List (List ℕ)
   response_cuts : List (List ℕ)
 
 data Move : Type 0 where
-  Meets : Entry → Move
+  Meets : ViewEntry → Move
   Drains : Side → ℕ → Move  -- the side is given at most so many bytes
   Sends : Move  -- all asks made are sent
 
@@ -48,17 +48,17 @@ by_fate _ wire = wire
 -- all that may go out in a direction by now
 abbrev all_out : FilterConfig → State → Direction → List ℕ
 all_out c s d =
-    let a : Account = s.account in
+    let a : ExchangeAccount = s.account in
     let m : Changed = changed c.course d (course d a) in
     let wire : List ℕ = written d m (more_cuts m (cuts_of s d)) in
     elim d [ Request ↦ wire | Response ↦ front Response a ++ by_fate a.fate wire ]
 
 abbrev drains : FilterConfig → State → Direction → Side → ℕ → State
 drains c s d side n =
-    let a : Account = s.account in
+    let a : ExchangeAccount = s.account in
     let m : Changed = changed c.course d (course d a) in
     let piece : List ℕ = take n (drop (length (flow d a).given) (all_out c s d)) in
-    let b : Account = step c (Given side piece) a in
+    let b : ExchangeAccount = step c (Given side piece) a in
     elim d [
       | Request ↦ record { account = b; request_cuts = more_cuts m s.request_cuts; response_cuts = s.response_cuts }
       | Response ↦ record { account = b; request_cuts = s.request_cuts; response_cuts = more_cuts m s.response_cuts }
@@ -72,7 +72,7 @@ may_give Aborted side = false
 may_give (Replied reply) Client = true
 may_give (Replied reply) Upstream = false
 
-abbrev sends : ℕ → FilterConfig → Account → Account
+abbrev sends : ℕ → FilterConfig → ExchangeAccount → ExchangeAccount
 sends zero c a = a
 sends (suc n) c a = sends n c (step c Sent a)
 
@@ -85,16 +85,16 @@ moved c Sends s = record s { account = sends 4 c s.account }
 abbrev is_right : FilterConfig → State → Direction → Bool
 is_right c s d = begins_with (flow d s.account).given (all_out c s d)
 
-abbrev is_answered : Account → Direction → Bool
+abbrev is_answered : ExchangeAccount → Direction → Bool
 is_answered a d = is_empty (out (course d a))
 
-abbrev is_all_answered : Account → Bool
+abbrev is_all_answered : ExchangeAccount → Bool
 is_all_answered a = is_answered a Request && is_answered a Response && (length a.made == a.sent)
 
 abbrev is_given_all : FilterConfig → State → Direction → Bool
 is_given_all c s d = bytes_eq (flow d s.account).given (all_out c s d)
 
-abbrev has_all : Account → Bool
+abbrev has_all : ExchangeAccount → Bool
 has_all a = is_live a.fate && a.request.course.original.whole && a.response.course.original.whole && (is_released a || is_all_answered a)
 
 -- everything due arrived, and everything that waits was given: then both messages were given whole

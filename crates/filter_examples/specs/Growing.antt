@@ -18,9 +18,9 @@ use Rattle.http_model.specs.declared.types.Framing.{Framing}
 use Rattle.http_model.specs.declared.types.Framing.TheVariants.{NoField, Length, Chunked}
 use Rattle.filter_model.specs.Config.{CourseConfig, FilterConfig}
 use Rattle.filter_model.specs.Course.{Course, Changed, changed, body_of, next, out, is_bare}
-use Rattle.filter_model.specs.Account.{Account, start, course}
+use Rattle.filter_model.specs.Account.{ExchangeAccount, start, course}
 use Rattle.filter_model.specs.Step.{rules, step, room}
-use Rattle.filter_model.specs.View.{Entry, Bytes, End, Closed, Tick}
+use Rattle.filter_model.specs.View.{ViewEntry, Bytes, End, Closed, Tick}
 use Rattle.filter_model.specs.declared.calls.Side.TheVariants.{Client, Upstream}
 use Rattle.filter_examples.specs.Setting.{config, allowing, send, get_a, headers_answered, response_headers_answered, response_body_answered, body_answered, answer, unchanged}
 
@@ -77,7 +77,7 @@ fits bare Chunked m = true
 abbrev is_settled_whole : CourseConfig → Course → Bool
 is_settled_whole c w = w.original.whole && (w.released || (is_empty (out w) && is_none (next c w)))
 
-abbrev holds : FilterConfig → Account → Account → Direction → Bool
+abbrev holds : FilterConfig → ExchangeAccount → ExchangeAccount → Direction → Bool
 holds c a b d =
     let m : Changed = changed c.course d (course d a) in
     let n : Changed = changed c.course d (course d b) in
@@ -86,14 +86,14 @@ holds c a b d =
     && (not (is_settled_whole c.course (course d b)) || n.ended)
 
 -- bytes beyond the room don't come
-abbrev pub limited : FilterConfig → Account → Entry → Entry
+abbrev pub limited : FilterConfig → ExchangeAccount → ViewEntry → ViewEntry
 limited c a (Bytes s bytes) = Bytes s (take (room c a s) bytes)
 limited c a e = e
 
-abbrev explore : ℕ → FilterConfig → List Entry → Account → Bool
+abbrev explore : ℕ → FilterConfig → List ViewEntry → ExchangeAccount → Bool
 explore zero c events a = true
 explore (suc n) c events a = list_all (λ e.
-    let b : Account = step c (limited c a e) a in
+    let b : ExchangeAccount = step c (limited c a e) a in
     holds c a b Request && holds c a b Response && explore n c events b) events
 
 -- with pieces and a mark of 64
@@ -106,28 +106,28 @@ fully c = record c { request = record c.request { trailers = true } }
 
 -- A chunked request with trailers
 
-abbrev pub chunked : Entry
+abbrev pub chunked : ViewEntry
 chunked = Bytes Client (codes "POST / HTTP/1.1\r\nHost: a\r\nTransfer-Encoding: chunked\r\n\r\n3\r\nabc\r\n")
 
-abbrev pub more : Entry
+abbrev pub more : ViewEntry
 more = Bytes Client (codes "1\r\nd\r\n")
 
-abbrev pub last : Entry
+abbrev pub last : ViewEntry
 last = Bytes Client (codes "0\r\nX-T: 1\r\n\r\n")
 
-abbrev trailers_answered : Entry
+abbrev trailers_answered : ViewEntry
 trailers_answered = answer (member.RequestTrailers unchanged)
 
-abbrev replaces_with : BodyChange → Entry
+abbrev replaces_with : BodyChange → ViewEntry
 replaces_with b = answer (member.RequestHeaders (record { replace = true; headers = unchanged; body = b }))
 
-abbrev body_stops : Entry
+abbrev body_stops : ViewEntry
 body_stops = answer (member.RequestBody (record { replace = true; headers = unchanged; body = change.Bytes (codes "hello") }))
 
-abbrev pub forbids : Entry
+abbrev pub forbids : ViewEntry
 forbids = answer (member.Immediate (record { code = 403; headers = unchanged; body = codes "no" }))
 
-abbrev chunked_events : List Entry
+abbrev chunked_events : List ViewEntry
 chunked_events = more ∷ last ∷ headers_answered ∷ body_answered change.Absent ∷ body_stops ∷ trailers_answered ∷ Closed true ∷ []
 
 abbrev chunked_holds : FilterConfig → Bool
@@ -163,10 +163,10 @@ chunked_request_partial_with_trailers = refl
 
 -- A request of a known length, with a limit that it passes, replacements and faults
 
-abbrev pub other_part : Entry
+abbrev pub other_part : ViewEntry
 other_part = response_body_answered change.Absent
 
-abbrev known_events : List Entry
+abbrev known_events : List ViewEntry
 known_events = Bytes Client (codes "ab") ∷ Bytes Client (codes "cde") ∷ headers_answered ∷ replaces_with change.Absent ∷ replaces_with (change.Bytes (codes "hi"))
     ∷ body_answered (change.Bytes (codes "hello!")) ∷ other_part ∷ Tick 300 ∷ []
 
@@ -195,19 +195,19 @@ known_request_partial = refl
 
 -- Responses of every length, also to HEAD
 
-abbrev response_events : List Entry
+abbrev response_events : List ViewEntry
 response_events = Bytes Upstream (codes "HTTP/1.1 200 OK\r\nContent-Length: 3\r\n\r\n")
     ∷ Bytes Upstream (codes "HTTP/1.1 200 OK\r\n\r\n") ∷ Bytes Upstream (codes "HTTP/1.1 204 No\r\n\r\n")
     ∷ Bytes Upstream (codes "abc") ∷ End Upstream ∷ response_headers_answered
     ∷ answer (member.ResponseHeaders (record { replace = true; headers = unchanged; body = change.Bytes (codes "hi") }))
     ∷ response_body_answered (change.Bytes (codes "hello!")) ∷ Closed true ∷ []
 
-abbrev responses_hold : BodyMode → Entry → Bool
+abbrev responses_hold : BodyMode → ViewEntry → Bool
 responses_hold mode first =
     let c : FilterConfig = wide (record (config NoAsk) { response = send mode }) in
     explore 3 c response_events (step c headers_answered (step c first (start c)))
 
-abbrev head_a : Entry
+abbrev head_a : ViewEntry
 head_a = Bytes Client (codes "HEAD / HTTP/1.1\r\nHost: a\r\n\r\n")
 
 responses_unasked : responses_hold NoAsk get_a ≡ true

@@ -13,11 +13,11 @@ use Rattle.http_model.specs.Wire.{write_rules}
 use Rattle.http_model.specs.declared.types.Direction.{Direction}
 use Rattle.http_model.specs.declared.types.Direction.TheVariants.{Request}
 use Rattle.filter_model.specs.Config.{CourseConfig, FilterConfig}
-use Rattle.filter_model.specs.Course.{Course, changed, body_of, Part, Headers, Body, Trailers, asked, committed}
-use Rattle.filter_model.specs.Account.{Account, start, fresh_course}
+use Rattle.filter_model.specs.Course.{Course, changed, body_of, AskedPart, Headers, Body, Trailers, asked, committed}
+use Rattle.filter_model.specs.Account.{ExchangeAccount, start, fresh_course}
 use Rattle.filter_model.specs.Step.{rules, step, is_live}
 use Rattle.filter_model.specs.Half.{HalfCall, Settle, Head, Bytes as Data, End as Last, Answer, Release, Sent as OneSent, Given as Gave, called}
-use Rattle.filter_model.specs.View.{Entry, Bytes, Answered, Closed, Sent}
+use Rattle.filter_model.specs.View.{ViewEntry, Bytes, Answered, Closed, Sent}
 use Rattle.filter_model.specs.declared.calls.Side.TheVariants.{Client}
 use Rattle.filter_examples.specs.Setting.{config, headers_answered, body_answered, common}
 use Rattle.filter_examples.specs.Growing.{same_fields, limited, wide, fully, chunked, more, last}
@@ -55,13 +55,13 @@ abbrev after_calls : CourseConfig → Direction → List HalfCall → Course →
 after_calls c d [] w = w
 after_calls c d (call ∷ more) w = after_calls c d more (asked c d (committed c d (called call w)))
 
-abbrev same_part : Part → Part → Bool
+abbrev same_part : AskedPart → AskedPart → Bool
 same_part (Headers fs l) (Headers gs m) = same_fields fs gs && (if l then m else not m)
 same_part (Body x l) (Body y m) = bytes_eq x y && (if l then m else not m)
 same_part (Trailers fs) (Trailers gs) = same_fields fs gs
 same_part _ _ = false
 
-abbrev same_parts : List Part → List Part → Bool
+abbrev same_parts : List AskedPart → List AskedPart → Bool
 same_parts [] [] = true
 same_parts (x ∷ xs) (y ∷ ys) = same_part x y && same_parts xs ys
 same_parts _ _ = false
@@ -70,24 +70,24 @@ abbrev agrees : CourseConfig → Course → Course → Bool
 agrees c v w = same_parts v.asks w.asks && bytes_eq (body_of (changed c Request v)) (body_of (changed c Request w))
 
 -- the half follows the exchange, as long as it lives
-abbrev follow : ℕ → FilterConfig → List Entry → Account → Course → Bool
+abbrev follow : ℕ → FilterConfig → List ViewEntry → ExchangeAccount → Course → Bool
 follow zero c events a half = true
 follow (suc n) c events a half = list_all (λ e.
-    let b : Account = step c (limited c a e) a in
+    let b : ExchangeAccount = step c (limited c a e) a in
     let next_half : Course = after_calls c.course Request (calls a.request.course b.request.course) half in
     elim (is_live b.fate) [ false ↦ true | true ↦ agrees c.course b.request.course next_half && follow n c events b next_half ]) events
 
-abbrev whole_chunked : Entry
+abbrev whole_chunked : ViewEntry
 whole_chunked = Bytes Client (codes "POST / HTTP/1.1\r\nHost: a\r\nTransfer-Encoding: chunked\r\n\r\n3\r\nabc\r\n2\r\nde\r\n0\r\nX-T: 1\r\n\r\n")
 
-abbrev with_streamed : Entry
+abbrev with_streamed : ViewEntry
 with_streamed = Answered (Some (record {
   member = member.RequestHeaders (common change.Absent);
   modes = Some (record { numbers = pos 0 ∷ pos 0 ∷ pos 1 ∷ pos 0 ∷ pos 0 ∷ pos 0 ∷ [] });
   timeout = None;
 }))
 
-abbrev events : List Entry
+abbrev events : List ViewEntry
 events = chunked ∷ more ∷ last ∷ whole_chunked ∷ headers_answered ∷ with_streamed ∷ body_answered (change.Bytes (codes "hello")) ∷ Sent ∷ Closed true ∷ []
 
 abbrev roomy : FilterConfig → FilterConfig

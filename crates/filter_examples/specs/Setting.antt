@@ -17,9 +17,9 @@ use Rattle.http_model.specs.declared.types.Direction.TheVariants.{Request, Respo
 use Rattle.filter_model.specs.Config.{CourseConfig, FilterConfig}
 use Rattle.filter_model.specs.Course.{changed, Changed}
 use Rattle.filter_model.specs.Outgoing.{written}
-use Rattle.filter_model.specs.Account.{Account, Fate, Replied, course, front}
+use Rattle.filter_model.specs.Account.{ExchangeAccount, Fate, Replied, course, front}
 use Rattle.filter_model.specs.Step.{after}
-use Rattle.filter_model.specs.View.{Entry, Bytes, Answered}
+use Rattle.filter_model.specs.View.{ViewEntry, Bytes, Answered}
 use Rattle.filter_model.specs.declared.calls.Side.TheVariants.{Client, Upstream}
 
 -- Configurations
@@ -69,41 +69,41 @@ with_rules r c = record c { course = record c.course { rules = r } }
 abbrev pub one_cut : Changed → List (List ℕ)
 one_cut m = if is_empty m.passing then [] else m.passing ∷ []
 
-abbrev pub wire : FilterConfig → Direction → Account → List ℕ
+abbrev pub wire : FilterConfig → Direction → ExchangeAccount → List ℕ
 wire c d a = let m : Changed = changed c.course d (course d a) in written d m (one_cut m)
 
-abbrev pub behind_front : FilterConfig → Account → Fate → List ℕ
+abbrev pub behind_front : FilterConfig → ExchangeAccount → Fate → List ℕ
 behind_front c a (Replied reply) = reply
 behind_front c a _ = wire c Response a
 
-abbrev pub client_gets : FilterConfig → Account → List ℕ
+abbrev pub client_gets : FilterConfig → ExchangeAccount → List ℕ
 client_gets c a = front Response a ++ behind_front c a a.fate
 
-abbrev pub to_upstream : FilterConfig → List Entry → List ℕ
+abbrev pub to_upstream : FilterConfig → List ViewEntry → List ℕ
 to_upstream c v = wire c Request (after c (reverse v))
 
-abbrev pub to_client : FilterConfig → List Entry → List ℕ
+abbrev pub to_client : FilterConfig → List ViewEntry → List ℕ
 to_client c v = client_gets c (after c (reverse v))
 
-abbrev pub asks : FilterConfig → List Entry → List Ask
+abbrev pub asks : FilterConfig → List ViewEntry → List Ask
 asks c v = (after c (reverse v)).made
 
-abbrev pub fate_of : FilterConfig → List Entry → Fate
+abbrev pub fate_of : FilterConfig → List ViewEntry → Fate
 fate_of c v = (after c (reverse v)).fate
 
-abbrev pub end_of : FilterConfig → List Entry → Option Bool
+abbrev pub end_of : FilterConfig → List ViewEntry → Option Bool
 end_of c v = (after c (reverse v)).ending
 
 -- Entries
 
-abbrev pub get_a : Entry
+abbrev pub get_a : ViewEntry
 get_a = Bytes Client (codes "GET / HTTP/1.1\r\nHost: a\r\n\r\n")
 
-abbrev pub post : List ℕ → Entry
+abbrev pub post : List ℕ → ViewEntry
 post body = Bytes Client (codes "POST / HTTP/1.1\r\nHost: a\r\nContent-Length: " ++ decimal (length body) ++ codes "\r\n\r\n" ++ body)
 
 -- a 200 without body
-abbrev pub ok : Entry
+abbrev pub ok : ViewEntry
 ok = Bytes Upstream (codes "HTTP/1.1 200 OK\r\nContent-Length: 0\r\n\r\n")
 
 abbrev pub unchanged : HeaderMutation
@@ -121,17 +121,17 @@ common b = record { replace = false; headers = unchanged; body = b }
 abbrev pub mutating : HeaderMutation → Common
 mutating m = record { replace = false; headers = m; body = change.Absent }
 
-abbrev pub answer : Member → Entry
+abbrev pub answer : Member → ViewEntry
 answer m = Answered (Some (record { member = m; modes = None; timeout = None }))
 
-abbrev pub headers_answered : Entry
+abbrev pub headers_answered : ViewEntry
 headers_answered = answer (member.RequestHeaders (common change.Absent))
 
-abbrev pub body_answered : BodyChange → Entry
+abbrev pub body_answered : BodyChange → ViewEntry
 body_answered b = answer (member.RequestBody (common b))
 
-abbrev pub response_headers_answered : Entry
+abbrev pub response_headers_answered : ViewEntry
 response_headers_answered = answer (member.ResponseHeaders (common change.Absent))
 
-abbrev pub response_body_answered : BodyChange → Entry
+abbrev pub response_body_answered : BodyChange → ViewEntry
 response_body_answered b = answer (member.ResponseBody (common b))

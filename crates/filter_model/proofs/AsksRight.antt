@@ -5,14 +5,15 @@ use Rattle.std.specs.Prelude.{ℕ, ◌≡◌, Bool, true, false, List, [], ◌�
 use Rattle.ext_msgs.specs.Spelling.{ask}
 use Rattle.http_model.specs.Bytes.{IsPrefix}
 use Rattle.filter_model.specs.Config.{FilterConfig}
-use Rattle.filter_model.specs.Account.{Account}
+use Rattle.filter_model.specs.Account.{ExchangeAccount}
 use Rattle.filter_model.specs.Step.{after, step}
-use Rattle.filter_model.specs.View.{Entry, Given}
+use Rattle.filter_model.specs.View.{ViewEntry, Given}
 use Rattle.filter_model.specs.Right.{Call, Stepped, Took, Nexted, Failed, IsHistory, account, ask_given, ask_due, end_due, due}
 use Rattle.filter_model.specs.declared.calls.Next.{Next}
 use Rattle.filter_model.specs.declared.calls.Next.TheVariants as next
 use Rattle.filter_model.specs.declared.calls.Taken.TheVariants.{Piece}
-use Rattle.filter_model.proofs.Kept.{step-made, onward}
+use Rattle.filter_model.proofs.Kept.{step-made}
+use Rattle.http_model.proofs.BodiesGrow.{onward}
 
 get_behind : {A : Type 0} (xs rest : List A) → slice_get (xs ++ rest) (length xs) ≡ slice_get rest 0
 get_behind [] rest = refl
@@ -36,7 +37,7 @@ longer xs ys y p e =
     append_one [] y more = refl
     append_one (x ∷ xs) y more = ap (λ l. x ∷ l) (append_one xs y more)
 
-grown : (c : FilterConfig) (e : Entry) (a : Account) → IsPrefix (map ask a.made) (map ask (step c e a).made)
+grown : (c : FilterConfig) (e : ViewEntry) (a : ExchangeAccount) → IsPrefix (map ask a.made) (map ask (step c e a).made)
 grown c e a =
     let p : IsPrefix a.made (step c e a).made = step-made c e a in
     record { rest = map ask p.rest; whole = sym (map-append ask a.made p.rest) ∙ ap (map ask) p.whole }

@@ -9,12 +9,12 @@ use Rattle.http_model.specs.Heads.{is_bodiless}
 use Rattle.http_model.specs.declared.types.Direction.{Direction}
 use Rattle.http_model.specs.declared.types.Direction.TheVariants.{Request, Response}
 use Rattle.filter_model.specs.Config.{CourseConfig, FilterConfig}
-use Rattle.filter_model.specs.Course.{Course, Part, outgoing, head_may_go, committed, next, next_at, next_body, next_trailers, due, is_permitted, is_headers, is_stopped, out, one_asked, asked}
-use Rattle.filter_model.specs.Account.{Account, Fate, Live, Aborted, front, gathered, settled, counted_course, given_count, start, is_released, is_finished, is_to_head}
+use Rattle.filter_model.specs.Course.{Course, AskedPart, outgoing, head_may_go, committed, next, next_at, next_body, next_trailers, due, is_permitted, is_headers, is_stopped, out, one_asked, asked}
+use Rattle.filter_model.specs.Account.{ExchangeAccount, Fate, Live, Aborted, front, gathered, settled, counted_course, given_count, start, is_released, is_finished, is_to_head}
 use Rattle.filter_model.specs.Cut.{Cut}
 use Rattle.filter_model.specs.Answers.{asked_in}
 use Rattle.filter_model.specs.Step.{step, step_if, after, after_end, still_counts, under_cut, under_departure, no_cut, cut, is_departure, is_live, accepted, with_ending, on, effect, lets_pass, by_reply, reply_to}
-use Rattle.filter_model.specs.View.{Entry, Given}
+use Rattle.filter_model.specs.View.{ViewEntry, Given}
 use Rattle.filter_model.specs.Right.{Call, Stepped, Took, Nexted, Failed, IsHistory, account}
 use Rattle.filter_model.specs.declared.calls.Taken.TheVariants.{Piece}
 use Rattle.filter_model.proofs.Kept.{gathered-fate}
@@ -25,13 +25,14 @@ use Rattle.filter_model.proofs.GivenRight.{Along, along, fits}
 use Rattle.filter_model.proofs.Firm.{asked_all, asked-go}
 use Rattle.filter_model.proofs.Counts.{Counts, counts_first, step_counts}
 use Rattle.filter_model.proofs.Steady.{Firms, step_firm}
+use Rattle.filter_model.proofs.EachStep.{by_reply_ends}
 
 pub record Rested (c : CourseConfig) (d : Direction) (w : Course) (front given : List ℕ) : Type 0 where
   pub chosen : w.head ≡ None → head_may_go w ≡ true → w.original.head ≡ None
   pub counted : w.given ≡ given_count d w.head front given
   pub asked : due c d w ≡ []
 
-abbrev pub AtRest : FilterConfig → Account → Type 0
+abbrev pub AtRest : FilterConfig → ExchangeAccount → Type 0
 AtRest c a =
     Rested c.course Request a.request.course (front Request a) a.request.given
     × Rested c.course Response a.response.course (front Response a) a.response.given
@@ -57,7 +58,7 @@ choose_one c d w front given = record {
 
 -- None is due
 
-nothing_released : (head : Option (List Field)) (bodiless first o s : Bool) (b t : Option Part) → next_at head bodiless true first o s b t ≡ None
+nothing_released : (head : Option (List Field)) (bodiless first o s : Bool) (b t : Option AskedPart) → next_at head bodiless true first o s b t ≡ None
 nothing_released None bodiless first o s b t = refl
 nothing_released (Some l) bodiless first o s b t = refl
 
@@ -96,7 +97,7 @@ asked_rest c d w front given s k = record {
   asked = asked_all c d w s.counts;
 }
 
-both_asked : (c : FilterConfig) (a : Account) → Held c (settled c a) → AtRest c (asked_in c Response (asked_in c Request (settled c a)))
+both_asked : (c : FilterConfig) (a : ExchangeAccount) → Held c (settled c a) → AtRest c (asked_in c Response (asked_in c Request (settled c a)))
 unfolding asked_in settled asked one_asked committed
 both_asked c a h = (
   asked_rest c.course Request (settled c a).request.course (front Request a) a.request.given h.request (choose_one c.course Request a.request.course (front Request a) a.request.given),
@@ -104,10 +105,6 @@ both_asked c a h = (
 )
 
 -- The rest passes
-
-by_reply_ends : (o : Option (List ℕ)) → is_live (by_reply o) ≡ false
-by_reply_ends None = refl
-by_reply_ends (Some r) = refl
 
 clash : true ≡ false → ⊥
 clash e = cc
@@ -124,11 +121,11 @@ or_true false y e = e
 passed_rest : (c : CourseConfig) (d : Direction) (w : Course) (front given : List ℕ) → w.released ≡ true → Chosen d w front given → Rested c d w front given
 passed_rest c d w front given e k = record { chosen = k.chosen; counted = k.counted; asked = none_due c d w (released_next c w e) }
 
-cut_rest : (c : FilterConfig) (k : Cut) (a : Account) → (settled c (effect c k a)).fate ≡ Live → AtRest c (settled c (effect c k a))
+cut_rest : (c : FilterConfig) (k : Cut) (a : ExchangeAccount) → (settled c (effect c k a)).fate ≡ Live → AtRest c (settled c (effect c k a))
 unfolding settled effect committed
 cut_rest c k a e =
     let p : lets_pass c k ≡ true = passes (lets_pass c k) a.fate (is_some a.response.course.head) (reply_to k (is_to_head a)) e in
-    let x : Account = effect c k a in (
+    let x : ExchangeAccount = effect c k a in (
       passed_rest c.course Request (settled c x).request.course (front Request x) x.request.given (or_true a.request.course.released (lets_pass c k) p)
           (choose_one c.course Request x.request.course (front Request x) x.request.given),
       passed_rest c.course Response (settled c x).response.course (front Response x) x.response.given (or_true a.response.course.released (lets_pass c k) p)
@@ -137,22 +134,22 @@ cut_rest c k a e =
 
 -- Each step
 
-no_cut_rest : (c : FilterConfig) (e : Entry) (a : Account) → Held c a → cut c e a ≡ None → AtRest c (no_cut c e a)
+no_cut_rest : (c : FilterConfig) (e : ViewEntry) (a : ExchangeAccount) → Held c a → cut c e a ≡ None → AtRest c (no_cut c e a)
 unfolding no_cut
 no_cut_rest c e a h n =
-    let x : Account = accepted c e a (is_released a || is_finished c a) in
+    let x : ExchangeAccount = accepted c e a (is_released a || is_finished c a) in
     both_asked c x (settled_goes c x (accepted_goes c e a h n (is_released a || is_finished c a) refl).held).held
 
-under_cut_rest : (c : FilterConfig) (e : Entry) (a : Account) (k : Option Cut) → k ≡ cut c e a → Held c a → (under_cut c e a k).fate ≡ Live → AtRest c (under_cut c e a k)
+under_cut_rest : (c : FilterConfig) (e : ViewEntry) (a : ExchangeAccount) (k : Option Cut) → k ≡ cut c e a → Held c a → (under_cut c e a k).fate ≡ Live → AtRest c (under_cut c e a k)
 unfolding under_cut
 under_cut_rest c e a (Some k) i h l = cut_rest c k (settled c a) l
 under_cut_rest c e a None i h l = no_cut_rest c e a h (sym i)
 
-departure_rest : (c : FilterConfig) (e : Entry) (a : Account) (b : Bool) → Held c a → (under_departure c e a b).fate ≡ Live → AtRest c (under_departure c e a b)
+departure_rest : (c : FilterConfig) (e : ViewEntry) (a : ExchangeAccount) (b : Bool) → Held c a → (under_departure c e a b).fate ≡ Live → AtRest c (under_departure c e a b)
 departure_rest c e a true h l = absurd (clash (sym (ap is_live l)))
 departure_rest c e a false h l = under_cut_rest c e a (cut c e a) refl h l
 
-if_rest : (c : FilterConfig) (e : Entry) (a : Account) (live : Bool) → live ≡ is_live a.fate → Held c (gathered e a) → (step_if c e a live).fate ≡ Live → AtRest c (step_if c e a live)
+if_rest : (c : FilterConfig) (e : ViewEntry) (a : ExchangeAccount) (live : Bool) → live ≡ is_live a.fate → Held c (gathered e a) → (step_if c e a live).fate ≡ Live → AtRest c (step_if c e a live)
 unfolding on with_ending
 if_rest c e a true i h l =
     let x : AtRest c (under_departure c e (gathered e a) (is_departure e (gathered e a))) = departure_rest c e (gathered e a) (is_departure e (gathered e a)) h l in
@@ -163,13 +160,13 @@ if_rest c e a false i h l = absurd (clash (sym (ap is_live (fate_as (still_count
     fate_as true l = sym (gathered-fate e a) ∙ l
     fate_as false l = l
 
-step_rest : (c : FilterConfig) (e : Entry) (a : Account) → Along c a → Fits c a e → (step c e a).fate ≡ Live → AtRest c (step c e a)
+step_rest : (c : FilterConfig) (e : ViewEntry) (a : ExchangeAccount) → Along c a → Fits c a e → (step c e a).fate ≡ Live → AtRest c (step c e a)
 unfolding step
 step_rest c e a l f = if_rest c e a (is_live a.fate) refl (gathered_goes c e a l.held (reads_on c e a l.read l.held f)).held
 
 -- Along a history
 
-pub record Steady (c : FilterConfig) (a : Account) : Type 0 where
+pub record Steady (c : FilterConfig) (a : ExchangeAccount) : Type 0 where
   pub along : Along c a
   pub firms : Firms a
   pub counts : Counts a
@@ -188,7 +185,7 @@ firms_first c = record {
   response = record { first = λ h n. absurd cc; stops = λ e. absurd cc };
 }
 
-steady_step : (c : FilterConfig) (e : Entry) (a : Account) → Along c (step c e a) → Steady c a → Fits c a e → Steady c (step c e a)
+steady_step : (c : FilterConfig) (e : ViewEntry) (a : ExchangeAccount) → Along c (step c e a) → Steady c a → Fits c a e → Steady c (step c e a)
 steady_step c e a l s f = record {
   along = l;
   firms = step_firm c e a s.along f s.firms;

@@ -10,12 +10,12 @@ use Rattle.ext_msgs.specs.declared.modes.PartModes.{PartModes}
 use Rattle.http_model.specs.declared.types.Direction.{Direction}
 use Rattle.http_model.specs.declared.types.Direction.TheVariants.{Request, Response}
 use Rattle.filter_model.specs.Config.{CourseConfig, FilterConfig}
-use Rattle.filter_model.specs.Course.{Course, Part, Headers, Body, Trailers, due, one_asked, asked}
-use Rattle.filter_model.specs.Account.{Account, gathered, settled, brought, one_sent, direction_of, is_in, sent_if, start, is_released, is_finished}
+use Rattle.filter_model.specs.Course.{Course, AskedPart, Headers, Body, Trailers, due, one_asked, asked}
+use Rattle.filter_model.specs.Account.{ExchangeAccount, gathered, settled, brought, one_sent, direction_of, is_in, sent_if, start, is_released, is_finished}
 use Rattle.filter_model.specs.Cut.{Cut, PartAnswer, part_answer}
 use Rattle.filter_model.specs.Answers.{answered, answered_by, part_answered, joined, override_of, overridden, asked_in, ask_of}
 use Rattle.filter_model.specs.Step.{rules, step, step_if, after_end, still_counts, under_cut, under_departure, no_cut, cut, is_departure, is_live, accepted, with_ending, on, effect}
-use Rattle.filter_model.specs.View.{Entry, Bytes, End, Lost, Answered, TooLong, Closed, NoStream, Tick, Starved, Sent, Given}
+use Rattle.filter_model.specs.View.{ViewEntry, Bytes, End, Lost, Answered, TooLong, Closed, NoStream, Tick, Starved, Sent, Given}
 use Rattle.filter_model.specs.declared.calls.Side.TheVariants.{Client, Upstream}
 
 abbrev one_if : Bool → ℕ
@@ -37,7 +37,7 @@ tally-append d (x ∷ xs) ys = ap (λ n. one_if (is_in d (Some (direction_of x))
     plus : (a b c : ℕ) → a + (b + c) ≡ (a + b) + c
     plus a b c = omega arith
 
-direction_of_ask : (d : Direction) (p : Part) → direction_of (ask_of d p) ≡ d
+direction_of_ask : (d : Direction) (p : AskedPart) → direction_of (ask_of d p) ≡ d
 direction_of_ask Request (Headers x b) = refl
 direction_of_ask Request (Body x b) = refl
 direction_of_ask Request (Trailers x) = refl
@@ -45,7 +45,7 @@ direction_of_ask Response (Headers x b) = refl
 direction_of_ask Response (Body x b) = refl
 direction_of_ask Response (Trailers x) = refl
 
-tally_own : (d : Direction) (l : List Part) → tally d (map (ask_of d) l) ≡ length l
+tally_own : (d : Direction) (l : List AskedPart) → tally d (map (ask_of d) l) ≡ length l
 tally_own d [] = refl
 tally_own d (p ∷ l) = ap (λ x. one_if (is_in d (Some x)) + tally d (map (ask_of d) l)) (direction_of_ask d p) ∙ own d ∙ plus (tally_own d l)
   where
@@ -56,21 +56,21 @@ tally_own d (p ∷ l) = ap (λ x. one_if (is_in d (Some x)) + tally d (map (ask_
     plus : tally d (map (ask_of d) l) ≡ length l → 1 + tally d (map (ask_of d) l) ≡ suc (length l)
     plus e = omega (arith, e)
 
-tally_request : (l : List Part) → tally Request (map (ask_of Response) l) ≡ 0
+tally_request : (l : List AskedPart) → tally Request (map (ask_of Response) l) ≡ 0
 tally_request [] = refl
 tally_request (p ∷ l) = ap (λ x. one_if (is_in Request (Some x)) + tally Request (map (ask_of Response) l)) (direction_of_ask Response p) ∙ none (tally_request l)
   where
     none : tally Request (map (ask_of Response) l) ≡ 0 → 0 + tally Request (map (ask_of Response) l) ≡ 0
     none e = omega (arith, e)
 
-tally_response : (l : List Part) → tally Response (map (ask_of Request) l) ≡ 0
+tally_response : (l : List AskedPart) → tally Response (map (ask_of Request) l) ≡ 0
 tally_response [] = refl
 tally_response (p ∷ l) = ap (λ x. one_if (is_in Response (Some x)) + tally Response (map (ask_of Request) l)) (direction_of_ask Request p) ∙ none (tally_response l)
   where
     none : tally Response (map (ask_of Request) l) ≡ 0 → 0 + tally Response (map (ask_of Request) l) ≡ 0
     none e = omega (arith, e)
 
-pub record Counts (a : Account) : Type 0 where
+pub record Counts (a : ExchangeAccount) : Type 0 where
   pub bound : a.sent ≤ length a.made
   pub request_made : length a.request.course.asks ≡ tally Request a.made
   pub response_made : length a.response.course.asks ≡ tally Response a.made
@@ -106,7 +106,7 @@ within [] n x e = absurd cc
 within (y ∷ made) zero x e = omega arith
 within (y ∷ made) (suc n) x e = let k = within made n x e in omega (arith, k)
 
-sent_counts : (a : Account) → Counts a → Counts (one_sent a)
+sent_counts : (a : ExchangeAccount) → Counts a → Counts (one_sent a)
 sent_counts a k = by (slice_get a.made a.sent) refl
   where
     by : (o : Option Ask) → slice_get a.made a.sent ≡ o → Counts (record a {
@@ -125,7 +125,7 @@ sent_counts a k = by (slice_get a.made a.sent) refl
 
 -- Asks are made
 
-asked_more : (c : CourseConfig) (d : Direction) (w : Course) → (more : List Part) × ((asked c d w).asks ≡ w.asks ++ more)
+asked_more : (c : CourseConfig) (d : Direction) (w : Course) → (more : List AskedPart) × ((asked c d w).asks ≡ w.asks ++ more)
 unfolding asked one_asked
 asked_more c d w =
     let w1 : Course = one_asked c d w in
@@ -135,13 +135,13 @@ asked_more c d w =
       together w.asks (due c d w) (due c d w1) (due c d w2) (due c d w3),
     )
   where
-    together : (a b d e f : List Part) → (((a ++ b) ++ d) ++ e) ++ f ≡ a ++ (b ++ (d ++ (e ++ f)))
+    together : (a b d e f : List AskedPart) → (((a ++ b) ++ d) ++ e) ++ f ≡ a ++ (b ++ (d ++ (e ++ f)))
     together a b d e f = append_assoc ((a ++ b) ++ d) e f ∙ append_assoc (a ++ b) d (e ++ f) ∙ append_assoc a b (d ++ (e ++ f))
 
-new_asks : (asks asks' more : List Part) → asks' ≡ asks ++ more → drop (length asks) asks' ≡ more
+new_asks : (asks asks' more : List AskedPart) → asks' ≡ asks ++ more → drop (length asks) asks' ≡ more
 new_asks asks asks' more e = ap (drop (length asks)) e ∙ drop_at asks more (length asks) refl
 
-asked_counts : (c : FilterConfig) (d : Direction) (a : Account) → Counts a → Counts (asked_in c d a)
+asked_counts : (c : FilterConfig) (d : Direction) (a : ExchangeAccount) → Counts a → Counts (asked_in c d a)
 unfolding asked_in asked one_asked
 asked_counts c Request a k =
     let m = asked_more c.course Request a.request.course in
@@ -182,7 +182,7 @@ asked_counts c Response a k =
 
 -- Nothing else counts
 
-abbrev again : {a b : Account} → Counts a → b.sent ≡ a.sent → b.made ≡ a.made → b.request.course.asks ≡ a.request.course.asks → b.response.course.asks ≡ a.response.course.asks
+abbrev again : {a b : ExchangeAccount} → Counts a → b.sent ≡ a.sent → b.made ≡ a.made → b.request.course.asks ≡ a.request.course.asks → b.response.course.asks ≡ a.response.course.asks
     → b.request.course.sent ≡ a.request.course.sent → b.response.course.sent ≡ a.response.course.sent → Counts b
 again {a = a} {b = b} k s m p q u v = record {
   bound = omega (arith, k.bound, s, ap length m);
@@ -192,48 +192,48 @@ again {a = a} {b = b} k s m p q u v = record {
   response_sent = v ∙ k.response_sent ∙ ap (λ n. tally Response (take n a.made)) (sym s) ∙ ap (λ l. tally Response (take b.sent l)) (sym m);
 }
 
-override_counts : (c : FilterConfig) (p : PartAnswer) (d : Direction) (m : Option (PartModes × PartModes)) (a : Account) → Counts a
+override_counts : (c : FilterConfig) (p : PartAnswer) (d : Direction) (m : Option (PartModes × PartModes)) (a : ExchangeAccount) → Counts a
     → Counts (overridden d m (joined c (record p { direction = d }) a))
 override_counts c p Request m a k = again {a = a} {b = overridden Request m (joined c (record p { direction = Request }) a)} k refl refl refl refl refl refl
 override_counts c p Response m a k = again {a = a} {b = overridden Response m (joined c (record p { direction = Response }) a)} k refl refl refl refl refl refl
 
-part_counts : (c : FilterConfig) (modes : Option ModeNumbers) (a : Account) (p : Option PartAnswer) → Counts a → Counts (part_answered c modes a p)
+part_counts : (c : FilterConfig) (modes : Option ModeNumbers) (a : ExchangeAccount) (p : Option PartAnswer) → Counts a → Counts (part_answered c modes a p)
 part_counts c modes a None k = k
 part_counts c modes a (Some p) k = override_counts c p p.direction (override_of c p.kind modes) a k
 
-by_counts : (c : FilterConfig) (x : Answer) (a : Account) (t : Option Span) → Counts a → Counts (answered_by c x a t)
+by_counts : (c : FilterConfig) (x : Answer) (a : ExchangeAccount) (t : Option Span) → Counts a → Counts (answered_by c x a t)
 by_counts c x a (Some t) k = again {a = a} {b = answered_by c x a (Some t)} k refl refl refl refl refl refl
 by_counts c x a None k = part_counts c x.modes a (part_answer x.member) k
 
-answered_counts : (c : FilterConfig) (e : Entry) (a : Account) → Counts a → Counts (answered c e a)
+answered_counts : (c : FilterConfig) (e : ViewEntry) (a : ExchangeAccount) → Counts a → Counts (answered c e a)
 unfolding answered
 answered_counts c (Answered (Some x)) a k = by_counts c x a x.timeout k
 answered_counts c _ a k = k
 
-accepted_counts : (c : FilterConfig) (e : Entry) (a : Account) (b : Bool) → Counts a → Counts (accepted c e a b)
+accepted_counts : (c : FilterConfig) (e : ViewEntry) (a : ExchangeAccount) (b : Bool) → Counts a → Counts (accepted c e a b)
 accepted_counts c e a true k = k
 accepted_counts c e a false k = answered_counts c e a k
 
-settled_counts : (c : FilterConfig) (a : Account) → Counts a → Counts (settled c a)
+settled_counts : (c : FilterConfig) (a : ExchangeAccount) → Counts a → Counts (settled c a)
 unfolding rules
 settled_counts c a k = again {a = a} {b = settled c a} k refl refl refl refl refl refl
 
-effect_counts : (c : FilterConfig) (x : Cut) (a : Account) → Counts a → Counts (effect c x a)
+effect_counts : (c : FilterConfig) (x : Cut) (a : ExchangeAccount) → Counts a → Counts (effect c x a)
 unfolding rules
 effect_counts c x a k = again {a = a} {b = effect c x a} k refl refl refl refl refl refl
 
-under_cut_counts : (c : FilterConfig) (e : Entry) (a : Account) (x : Option Cut) → Counts a → Counts (under_cut c e a x)
+under_cut_counts : (c : FilterConfig) (e : ViewEntry) (a : ExchangeAccount) (x : Option Cut) → Counts a → Counts (under_cut c e a x)
 unfolding under_cut no_cut
 under_cut_counts c e a (Some x) k = settled_counts c (effect c x (settled c a)) (effect_counts c x (settled c a) (settled_counts c a k))
 under_cut_counts c e a None k =
-    let b : Account = accepted c e a (is_released a || is_finished c a) in
+    let b : ExchangeAccount = accepted c e a (is_released a || is_finished c a) in
     asked_counts c Response (asked_in c Request (settled c b)) (asked_counts c Request (settled c b) (settled_counts c b (accepted_counts c e a (is_released a || is_finished c a) k)))
 
-departure_counts : (c : FilterConfig) (e : Entry) (a : Account) (b : Bool) → Counts a → Counts (under_departure c e a b)
+departure_counts : (c : FilterConfig) (e : ViewEntry) (a : ExchangeAccount) (b : Bool) → Counts a → Counts (under_departure c e a b)
 departure_counts c e a true k = again {a = a} {b = under_departure c e a true} k refl refl refl refl refl refl
 departure_counts c e a false k = under_cut_counts c e a (cut c e a) k
 
-gathered_counts : (e : Entry) (a : Account) → Counts a → Counts (gathered e a)
+gathered_counts : (e : ViewEntry) (a : ExchangeAccount) → Counts a → Counts (gathered e a)
 unfolding gathered brought
 gathered_counts (Bytes Client bytes) a k = again {a = a} {b = gathered (Bytes Client bytes) a} k refl refl refl refl refl refl
 gathered_counts (Bytes Upstream bytes) a k = again {a = a} {b = gathered (Bytes Upstream bytes) a} k refl refl refl refl refl refl
@@ -251,10 +251,10 @@ gathered_counts (Tick n) a k = again {a = a} {b = gathered (Tick n) a} k refl re
 gathered_counts Starved a k = k
 gathered_counts Sent a k = sent_counts a k
 
-if_counts : (c : FilterConfig) (e : Entry) (a : Account) (live : Bool) → Counts a → Counts (step_if c e a live)
+if_counts : (c : FilterConfig) (e : ViewEntry) (a : ExchangeAccount) (live : Bool) → Counts a → Counts (step_if c e a live)
 unfolding on with_ending
 if_counts c e a true k =
-    let g : Account = gathered e a in
+    let g : ExchangeAccount = gathered e a in
     again {a = under_departure c e g (is_departure e g)} {b = step_if c e a true} (departure_counts c e g (is_departure e g) (gathered_counts e a k)) refl refl refl refl refl refl
 if_counts c e a false k = by (still_counts e)
   where
@@ -262,12 +262,12 @@ if_counts c e a false k = by (still_counts e)
     by true = gathered_counts e a k
     by false = k
 
-pub step_counts : (c : FilterConfig) (e : Entry) (a : Account) → Counts a → Counts (step c e a)
+pub step_counts : (c : FilterConfig) (e : ViewEntry) (a : ExchangeAccount) → Counts a → Counts (step c e a)
 unfolding step
 step_counts c e a k = if_counts c e a (is_live a.fate) k
 
 -- once all asks were sent, each direction's were
-pub all_sent : (a : Account) → Counts a → length a.made ≡ a.sent
+pub all_sent : (a : ExchangeAccount) → Counts a → length a.made ≡ a.sent
     → (a.request.course.sent ≡ length a.request.course.asks) × (a.response.course.sent ≡ length a.response.course.asks)
 all_sent a k e =
     let all : take a.sent a.made ≡ a.made = take_all a.sent a.made (omega (arith, e)) in

@@ -16,10 +16,10 @@ use Rattle.http_model.specs.Reads.{Original}
 use Rattle.http_model.specs.Reader.{Extends}
 use Rattle.http_model.specs.declared.types.Direction.{Direction}
 use Rattle.filter_model.specs.Config.{CourseConfig}
-use Rattle.filter_model.specs.Course.{Course, Part, Headers, Body, Trailers, Outgoing, changed, changed_at, kept, is_bare, replacement, replacement_at, committed, is_passing, passing_at, is_body_done, answered_pieces, answered_piece, pairs, out, bytes_in, asked_bytes, changed_trailers, trailers_at, is_body, is_headers, is_trailers, is_stopped, is_buffered, mode, mode_at, next_body, body_at, next, next_at, one_asked, is_permitted, due, answer_to, under, next_trailers, next_streamed}
+use Rattle.filter_model.specs.Course.{Course, AskedPart, Headers, Body, Trailers, Outgoing, changed, changed_at, kept, is_bare, replacement, replacement_at, committed, is_passing, passing_at, is_body_done, answered_pieces, answered_piece, pairs, out, bytes_in, asked_bytes, changed_trailers, trailers_at, is_body, is_headers, is_trailers, is_stopped, is_buffered, mode, mode_at, next_body, body_at, next, next_at, one_asked, is_permitted, due, answer_to, under, next_trailers, next_streamed}
 use Rattle.filter_model.specs.Grown.{Grown, BodyGoesOn}
-use Rattle.filter_model.proofs.Kept.{itself}
-use Rattle.filter_model.proofs.Growing.{grown_same, is_first}
+use Rattle.filter_model.proofs.Growing.{grown_same}
+use Rattle.http_model.proofs.BodiesGrow.{is_first, itself}
 
 -- Through the head and the replacement
 
@@ -141,7 +141,7 @@ drop_more (z ∷ xs) (w ∷ ys) x more y e = drop_more xs ys x more y e
 
 -- What a course keeps to
 
-abbrev pub once : (Part → Bool) → List Part → Bool
+abbrev pub once : (AskedPart → Bool) → List AskedPart → Bool
 once kind [] = true
 once kind (p ∷ asks) = if kind p then not (list_any kind asks) else once kind asks
 
@@ -172,8 +172,8 @@ any_of_drop k (x ∷ xs) (y ∷ ys) e = or_right (k x) (list_any k xs) (any_of_d
     or_right false y e = e
 
 -- an ask that is made once isn't both answered and out
-pub once_out : (kind : Part → Bool) (asks : List Part) (answers : List Common) → once kind asks ≡ true → list_any kind (drop (length answers) asks) ≡ true
-    → find (λ (q : Part × Common). kind q.0) (zip asks answers) ≡ None
+pub once_out : (kind : AskedPart → Bool) (asks : List AskedPart) (answers : List Common) → once kind asks ≡ true → list_any kind (drop (length answers) asks) ≡ true
+    → find (λ (q : AskedPart × Common). kind q.0) (zip asks answers) ≡ None
 once_out kind [] answers e f = refl
 once_out kind (p ∷ asks) [] e f = refl
 once_out kind (p ∷ asks) (a ∷ answers) e f = by (λ g. once_out kind asks answers g f) (kind p) refl
@@ -182,10 +182,10 @@ once_out kind (p ∷ asks) (a ∷ answers) e f = by (λ g. once_out kind asks an
     no_true true e f = cc
     no_true false e f = cc
 
-    by : (once kind asks ≡ true → find (λ (q : Part × Common). kind q.0) (zip asks answers) ≡ None) → (b : Bool) → b ≡ kind p
-        → cond (kind p) (Some (p, a)) (find (λ (q : Part × Common). kind q.0) (zip asks answers)) ≡ None
+    by : (once kind asks ≡ true → find (λ (q : AskedPart × Common). kind q.0) (zip asks answers) ≡ None) → (b : Bool) → b ≡ kind p
+        → cond (kind p) (Some (p, a)) (find (λ (q : AskedPart × Common). kind q.0) (zip asks answers)) ≡ None
     by more true g = absurd (no_true (list_any kind asks) (ap (λ b. if b then not (list_any kind asks) else once kind asks) g ∙ e) (any_of_drop kind asks answers f))
-    by more false g = ap (λ b. cond b (Some (p, a)) (find (λ (q : Part × Common). kind q.0) (zip asks answers))) (sym g)
+    by more false g = ap (λ b. cond b (Some (p, a)) (find (λ (q : AskedPart × Common). kind q.0) (zip asks answers))) (sym g)
         ∙ more (ap (λ b. if b then not (list_any kind asks) else once kind asks) g ∙ e)
 
 if_buffered : (b : Bool) (m : BodyMode) → is_buffered (if b then NoAsk else m) ≡ true → is_buffered m ≡ true
@@ -216,7 +216,7 @@ not_ended true false (Some x) p q = absurd cc
 not_ended true false None p q = refl
 not_ended false e t p q = refl
 
-out_unended : (c : CourseConfig) (w : Course) (h : Outgoing) (p : Part) (more : List Part) → Sound c w → w.head ≡ Some h → w.released ≡ false
+out_unended : (c : CourseConfig) (w : Course) (h : Outgoing) (p : AskedPart) (more : List AskedPart) → Sound c w → w.head ≡ Some h → w.released ≡ false
     → out w ≡ p ∷ more → (kept c w h).ended ≡ false
 out_unended c w h (Headers fields last) more s e r o = absurd (clash (sym (ap (list_any is_headers) o) ∙ s.no_headers h e r))
   where
@@ -226,7 +226,7 @@ out_unended c w h (Body bytes last) more s e r o =
     body_out w.original.whole w.released (list_any is_body (out w)) _ (is_empty w.original.trailers) (is_some (changed_trailers c w)) r (ap (list_any is_body) o)
 out_unended c w h (Trailers fields) more s e r o =
     let asked : list_any is_trailers (out w) ≡ true = ap (list_any is_trailers) o in
-    let none : answer_to is_trailers w ≡ None = ap (option_map (λ (q : Part × Common). q.1)) (once_out is_trailers w.asks w.answers s.once_trailers asked) in
+    let none : answer_to is_trailers w ≡ None = ap (option_map (λ (q : AskedPart × Common). q.1)) (once_out is_trailers w.asks w.answers s.once_trailers asked) in
     not_ended (is_body_done c w) (is_empty w.original.trailers) (changed_trailers c w) (s.trailers (any_of_drop is_trailers w.asks w.answers asked))
     (no_trailers (is_empty w.original.trailers) (is_body_done c w) (answer_to is_trailers w) _ w.released (is_empty (out w)) _ _ none r (ap is_empty o))
 
@@ -236,20 +236,20 @@ find_last : {A : Type 0} (k : A → Bool) (xs : List A) (q : A) → k q ≡ fals
 find_last k [] q e = ap (λ b. cond b (Some q) None) e
 find_last k (x ∷ xs) q e = ap (λ o. cond (k x) (Some x) o) (find_last k xs q e)
 
-pub pairs_more : (w : Course) (a : Common) (p : Part) (more : List Part) → out w ≡ p ∷ more → pairs (with_answer a w) ≡ pairs w ++ (p, a) ∷ []
+pub pairs_more : (w : Course) (a : Common) (p : AskedPart) (more : List AskedPart) → out w ≡ p ∷ more → pairs (with_answer a w) ≡ pairs w ++ (p, a) ∷ []
 pairs_more w a p more o = zip_more w.asks w.answers p more a o
 
-answer_kept : (kind : Part → Bool) (w : Course) (a : Common) (p : Part) (more : List Part) → out w ≡ p ∷ more → kind p ≡ false
+answer_kept : (kind : AskedPart → Bool) (w : Course) (a : Common) (p : AskedPart) (more : List AskedPart) → out w ≡ p ∷ more → kind p ≡ false
     → answer_to kind (with_answer a w) ≡ answer_to kind w
 answer_kept kind w a p more o e =
-    ap (λ l. option_map (λ (q : Part × Common). q.1) (find (λ (q : Part × Common). kind q.0) l)) (pairs_more w a p more o)
-    ∙ ap (option_map (λ (q : Part × Common). q.1)) (find_last (λ (q : Part × Common). kind q.0) (pairs w) (p, a) e)
+    ap (λ l. option_map (λ (q : AskedPart × Common). q.1) (find (λ (q : AskedPart × Common). kind q.0) l)) (pairs_more w a p more o)
+    ∙ ap (option_map (λ (q : AskedPart × Common). q.1)) (find_last (λ (q : AskedPart × Common). kind q.0) (pairs w) (p, a) e)
 
 pub or_first : (x y : Bool) → (x || y) ≡ false → x ≡ false
 or_first true y e = e
 or_first false y e = refl
 
-and_first : (x y : Bool) → (x && y) ≡ true → x ≡ true
+pub and_first : (x y : Bool) → (x && y) ≡ true → x ≡ true
 and_first true y e = refl
 and_first false y e = e
 
@@ -270,7 +270,7 @@ pub or_second : (x y : Bool) → (x || y) ≡ false → y ≡ false
 or_second true y e = absurd cc
 or_second false y e = e
 
-passing_kept : (w : Course) (a : Common) (p : Part) (more : List Part) → w.released ≡ false → out w ≡ p ∷ more → is_headers p ≡ false
+passing_kept : (w : Course) (a : Common) (p : AskedPart) (more : List AskedPart) → w.released ≡ false → out w ≡ p ∷ more → is_headers p ≡ false
     → is_passing w ≡ true → is_passing (with_answer a w) ≡ true
 passing_kept w a p more r o e t =
     let none : list_any is_body (p ∷ more) ≡ false = ap (list_any is_body) (sym o) ∙ no_body_out w.released (list_any is_body (out w)) (is_stopped w) (mode w) (list_any is_body w.asks) r t in
@@ -289,23 +289,23 @@ passing_kept w a p more r o e t =
     stopped_more : (w : Course) (a : Common) → is_stopped (with_answer a w) ≡ (is_stopped w || a.replace)
     stopped_more w a = list_any-append (λ x. x.replace) w.answers (a ∷ []) ∙ ap (λ b. is_stopped w || b) (or_false a.replace)
 
-no_piece : (p : Part) (a : Common) → is_body p ≡ false → (filter_map answered_piece ((p, a) ∷ []) ≡ []) × (length (bytes_in p) ≡ 0)
+no_piece : (p : AskedPart) (a : Common) → is_body p ≡ false → (filter_map answered_piece ((p, a) ∷ []) ≡ []) × (length (bytes_in p) ≡ 0)
 no_piece (Headers fields last) a e = (refl, refl)
 no_piece (Body bytes last) a e = absurd cc
 no_piece (Trailers fields) a e = (refl, refl)
 
-pieces_more : (w : Course) (a : Common) (p : Part) (more : List Part) → out w ≡ p ∷ more
+pieces_more : (w : Course) (a : Common) (p : AskedPart) (more : List AskedPart) → out w ≡ p ∷ more
     → answered_pieces (with_answer a w) ≡ answered_pieces w ++ filter_map answered_piece ((p, a) ∷ [])
 pieces_more w a p more o = ap (filter_map answered_piece) (pairs_more w a p more o) ∙ filter_map-append answered_piece (pairs w) ((p, a) ∷ [])
 
 pub plus_none : (n m : ℕ) → m ≡ 0 → n + m ≡ n
 plus_none n m e = omega arith
 
-joined_body : (c : CourseConfig) (w : Course) (h : Outgoing) (a : Common) (p : Part) (more : List Part) → w.released ≡ false → out w ≡ p ∷ more → is_headers p ≡ false
+joined_body : (c : CourseConfig) (w : Course) (h : Outgoing) (a : Common) (p : AskedPart) (more : List AskedPart) → w.released ≡ false → out w ≡ p ∷ more → is_headers p ≡ false
     → (b : Bool) → b ≡ is_passing w → BodyGoesOn (kept c w h) (kept c (with_answer a w) h)
 joined_body c w h a p more r o e false t =
     inl (
-      ap (λ b. if b then drop (sum_by (λ (q : Part × Common). length (bytes_in q.0)) (pairs w)) w.original.body else []) (sym t),
+      ap (λ b. if b then drop (sum_by (λ (q : AskedPart × Common). length (bytes_in q.0)) (pairs w)) w.original.body else []) (sym t),
       record { rest = filter_map answered_piece ((p, a) ∷ []); whole = sym (pieces_more w a p more o) },
     )
 joined_body c w h a p more r o e true t =
@@ -314,19 +314,19 @@ joined_body c w h a p more r o e true t =
     let same : answered_pieces (with_answer a w) ≡ answered_pieces w =
     pieces_more w a p more o ∙ ap (λ l. answered_pieces w ++ l) (no_piece p a none).0 ∙ append-nil (answered_pieces w) in
     let passes : is_passing (with_answer a w) ≡ true = passing_kept w a p more r o e (sym t) in
-    let count : sum_by (λ (q : Part × Common). length (bytes_in q.0)) (pairs (with_answer a w)) ≡ sum_by (λ (q : Part × Common). length (bytes_in q.0)) (pairs w) =
-    ap (sum_by (λ (q : Part × Common). length (bytes_in q.0))) (pairs_more w a p more o)
-    ∙ sum_by_push (λ (q : Part × Common). length (bytes_in q.0)) (pairs w) (p, a)
-    ∙ plus_none (sum_by (λ (q : Part × Common). length (bytes_in q.0)) (pairs w)) (length (bytes_in p)) (no_piece p a none).1 in
+    let count : sum_by (λ (q : AskedPart × Common). length (bytes_in q.0)) (pairs (with_answer a w)) ≡ sum_by (λ (q : AskedPart × Common). length (bytes_in q.0)) (pairs w) =
+    ap (sum_by (λ (q : AskedPart × Common). length (bytes_in q.0))) (pairs_more w a p more o)
+    ∙ sum_by_push (λ (q : AskedPart × Common). length (bytes_in q.0)) (pairs w) (p, a)
+    ∙ plus_none (sum_by (λ (q : AskedPart × Common). length (bytes_in q.0)) (pairs w)) (length (bytes_in p)) (no_piece p a none).1 in
     inr (
       same,
       subst (λ l. IsPrefix (kept c w h).passing l)
-          (ap (λ b. if b then drop (sum_by (λ (q : Part × Common). length (bytes_in q.0)) (pairs w)) w.original.body else []) (sym t ∙ sym passes)
+          (ap (λ b. if b then drop (sum_by (λ (q : AskedPart × Common). length (bytes_in q.0)) (pairs w)) w.original.body else []) (sym t ∙ sym passes)
           ∙ ap (λ n. if is_passing (with_answer a w) then drop n w.original.body else []) (sym count))
           (itself (kept c w h).passing),
     )
 
-pub join_grows : (c : CourseConfig) (d : Direction) (w : Course) (a : Common) (p : Part) (more : List Part) → Sound c w → w.released ≡ false → out w ≡ p ∷ more
+pub join_grows : (c : CourseConfig) (d : Direction) (w : Course) (a : Common) (p : AskedPart) (more : List AskedPart) → Sound c w → w.released ≡ false → out w ≡ p ∷ more
     → Grown (changed c d w) (changed c d (with_answer a w))
 join_grows c d w a p more s r o = by_head w.head refl
   where
@@ -339,7 +339,7 @@ join_grows c d w a p more s r o = by_head w.head refl
 
 -- Asks
 
-abbrev pub with_ask : Part → Course → Course
+abbrev pub with_ask : AskedPart → Course → Course
 with_ask x w = record w { asks = w.asks ++ x ∷ [] }
 
 pub zip_longer : {A B : Type 0} (xs more : List A) (ys : List B) → length ys ≤ length xs → zip (xs ++ more) ys ≡ zip xs ys
@@ -354,11 +354,11 @@ drop_longer [] more (y ∷ ys) e = absurd (omega arith)
 drop_longer (x ∷ xs) more (y ∷ ys) e = drop_longer xs more ys (omega arith)
 
 -- where the next ask comes from
-abbrev pub NextIs : CourseConfig → Course → Part → Type 0
+abbrev pub NextIs : CourseConfig → Course → AskedPart → Type 0
 NextIs c w x = (w.released ≡ false) × (is_stopped w ≡ false)
     × (((w.modes.headers && is_empty w.asks) ≡ true) ⊎ ((next_body c w ≡ Some x) ⊎ ((next_body c w ≡ None) × (next_trailers w ≡ Some x))))
 
-pick : (head : Option (List Field)) (bodiless r first o s : Bool) (b t : Option Part) (x : Part) → next_at head bodiless r first o s b t ≡ Some x
+pick : (head : Option (List Field)) (bodiless r first o s : Bool) (b t : Option AskedPart) (x : AskedPart) → next_at head bodiless r first o s b t ≡ Some x
     → (r ≡ false) × (s ≡ false) × ((first ≡ true) ⊎ ((b ≡ Some x) ⊎ ((b ≡ None) × (t ≡ Some x))))
 pick None bodiless r first o s b t x e = absurd cc
 pick (Some l) bodiless true first o s b t x e = absurd cc
@@ -368,13 +368,13 @@ pick (Some l) bodiless false false true false b t x e = absurd cc
 pick (Some l) bodiless false false false false (Some p) t x e = (refl, refl, inr (inl e))
 pick (Some l) bodiless false false false false None t x e = (refl, refl, inr (inr (refl, e)))
 
-pub next_is : (c : CourseConfig) (w : Course) (x : Part) → next c w ≡ Some x → NextIs c w x
+pub next_is : (c : CourseConfig) (w : Course) (x : AskedPart) → next c w ≡ Some x → NextIs c w x
 unfolding next
 next_is c w x e =
     pick w.original.head (is_bodiless w.original.length) w.released (w.modes.headers && is_empty w.asks)
     (list_any is_headers (out w)) (is_stopped w) (next_body c w) (next_trailers w) x e
 
-body_pick : (bare s : Bool) (m : BodyMode) (a b p : Option Part) (k : Bool) (x : Part) (o : Bool)
+body_pick : (bare s : Bool) (m : BodyMode) (a b p : Option AskedPart) (k : Bool) (x : AskedPart) (o : Bool)
     → body_at bare s m a b (if k then None else p) ≡ Some x → passing_at false o s m k ≡ false
 body_pick true s m a b p k x o e = absurd cc
 body_pick false true m a b p k x o e = absurd cc
@@ -387,13 +387,13 @@ body_pick false false Partial a b p true x o e = absurd cc
 body_pick false false Partial a b p false x true e = refl
 body_pick false false Partial a b p false x false e = refl
 
-not_passing : (c : CourseConfig) (w : Course) (x : Part) → w.released ≡ false → next_body c w ≡ Some x → is_passing w ≡ false
+not_passing : (c : CourseConfig) (w : Course) (x : AskedPart) → w.released ≡ false → next_body c w ≡ Some x → is_passing w ≡ false
 unfolding next_body
 not_passing c w x r e =
     ap (λ b. passing_at b (list_any is_body (out w)) (is_stopped w) (mode w) (list_any is_body w.asks)) r
     ∙ body_pick (is_bodiless w.original.length) (is_stopped w) (mode w) _ _ _ (list_any is_body w.asks) x (list_any is_body (out w)) e
 
-trailers_pick : (b : Bool) (f : List Field) (x : Part) → (if b then Some (Trailers f) else None) ≡ Some x → (b ≡ true) × (is_body x ≡ false)
+trailers_pick : (b : Bool) (f : List Field) (x : AskedPart) → (if b then Some (Trailers f) else None) ≡ Some x → (b ≡ true) × (is_body x ≡ false)
 trailers_pick true f x e = (refl, ap (λ o. elim o [ Some p ↦ is_body p | None ↦ false ]) (sym e))
 trailers_pick false f x e = absurd cc
 
@@ -402,15 +402,15 @@ last_of_and true true e = absurd cc
 last_of_and true false e = (refl, refl)
 last_of_and false y e = absurd cc
 
-none_of_kind : (kind : Part → Bool) (asks : List Part) (answers : List Common) → list_any kind asks ≡ false
-    → find (λ (q : Part × Common). kind q.0) (zip asks answers) ≡ None
+none_of_kind : (kind : AskedPart → Bool) (asks : List AskedPart) (answers : List Common) → list_any kind asks ≡ false
+    → find (λ (q : AskedPart × Common). kind q.0) (zip asks answers) ≡ None
 none_of_kind kind [] answers e = refl
 none_of_kind kind (p ∷ asks) [] e = refl
 none_of_kind kind (p ∷ asks) (a ∷ answers) e =
-    ap (λ b. cond b (Some (p, a)) (find (λ (q : Part × Common). kind q.0) (zip asks answers))) (or_first (kind p) (list_any kind asks) e)
+    ap (λ b. cond b (Some (p, a)) (find (λ (q : AskedPart × Common). kind q.0) (zip asks answers))) (or_first (kind p) (list_any kind asks) e)
     ∙ none_of_kind kind asks answers (or_second (kind p) (list_any kind asks) e)
 
-is_trailers_none : {A : Type 0} (b d : Bool) (x : Option Common) (f : Common → A) (r e : Bool) (n : Option Part) (y : Part) (t : A) → x ≡ None → r ≡ false → n ≡ Some y
+is_trailers_none : {A : Type 0} (b d : Bool) (x : Option Common) (f : Common → A) (r e : Bool) (n : Option AskedPart) (y : AskedPart) (t : A) → x ≡ None → r ≡ false → n ≡ Some y
     → trailers_at b d x f (r || (e && is_none n)) t ≡ None
 is_trailers_none true d x f r e n y t p q s = refl
 is_trailers_none false false x f r e n y t p q s = refl
@@ -420,7 +420,7 @@ is_trailers_none false true None f false e None y t p q s = absurd cc
 is_trailers_none false true None f false true (Some z) y t p q s = refl
 is_trailers_none false true None f false false (Some z) y t p q s = refl
 
-body_next : (whole released out : Bool) (none : Option Part) (x : Part) (empty trailers : Bool) → released ≡ false → none ≡ Some x
+body_next : (whole released out : Bool) (none : Option AskedPart) (x : AskedPart) (empty trailers : Bool) → released ≡ false → none ≡ Some x
     → ((whole && (released || (not out && is_none none))) && (empty || trailers)) ≡ false
 body_next true true o n x e t r u = absurd cc
 body_next true false o None x e t r u = absurd cc
@@ -436,16 +436,16 @@ or_none false false e = refl
 pub any_same : {A : Type 0} (k : A → Bool) (xs : List A) (x : A) → k x ≡ false → list_any k (xs ++ x ∷ []) ≡ list_any k xs
 any_same k xs x e = list_any-append k xs (x ∷ []) ∙ or_none (list_any k xs) (k x) e
 
-passing_same : (w : Course) (x : Part) → length w.answers ≤ length w.asks → is_body x ≡ false → is_passing (with_ask x w) ≡ is_passing w
+passing_same : (w : Course) (x : AskedPart) → length w.answers ≤ length w.asks → is_body x ≡ false → is_passing (with_ask x w) ≡ is_passing w
 passing_same w x n e =
     ap (λ o. passing_at w.released o (is_stopped w) (mode (with_ask x w)) (list_any is_body (with_ask x w).asks))
     (ap (list_any is_body) (drop_longer w.asks (x ∷ []) w.answers n) ∙ any_same is_body (out w) x e)
     ∙ ap (λ o. passing_at w.released (list_any is_body (out w)) (is_stopped w) (mode (with_ask x w)) o) (any_same is_body w.asks x e)
     ∙ ap (λ l. passing_at w.released (list_any is_body (out w)) (is_stopped w)
-    (mode_at w.released (option_map (λ (q : Part × Common). q.1) (find (λ (q : Part × Common). is_headers q.0) l)) w.modes.body) (list_any is_body w.asks))
+    (mode_at w.released (option_map (λ (q : AskedPart × Common). q.1) (find (λ (q : AskedPart × Common). is_headers q.0) l)) w.modes.body) (list_any is_body w.asks))
     (zip_longer w.asks (x ∷ []) w.answers n)
 
-ask_kept : (c : CourseConfig) (w : Course) (h : Outgoing) (x : Part) → Sound c w → w.head ≡ Some h → NextIs c w x → Grown (kept c w h) (kept c (with_ask x w) h)
+ask_kept : (c : CourseConfig) (w : Course) (h : Outgoing) (x : AskedPart) → Sound c w → w.head ≡ Some h → NextIs c w x → Grown (kept c w h) (kept c (with_ask x w) h)
 ask_kept c w h x s e (r, t, inl f) = absurd (clash (sym f ∙ s.first_made h e r))
   where
     clash : true ≡ false → ⊥
@@ -454,7 +454,7 @@ ask_kept c w h x s e (r, t, inr (inl b)) =
     goes_on c w (with_ask x w) h
     (body_next w.original.whole w.released (list_any is_body (out w)) (next_body c w) x (is_empty w.original.trailers) (is_some (changed_trailers c w)) r b)
     (inl (
-      ap (λ b. if b then drop (sum_by (λ (q : Part × Common). length (bytes_in q.0)) (pairs w)) w.original.body else []) (not_passing c w x r b),
+      ap (λ b. if b then drop (sum_by (λ (q : AskedPart × Common). length (bytes_in q.0)) (pairs w)) w.original.body else []) (not_passing c w x r b),
       subst (λ l. IsPrefix (kept c w h).pieces (filter_map answered_piece l)) (sym (zip_longer w.asks (x ∷ []) w.answers s.counts))
           (itself (kept c w h).pieces),
     ))
@@ -462,32 +462,32 @@ ask_kept c w h x s e (r, t, inr (inr (b, f))) =
     let k = trailers_pick _ w.original.trailers x f in
     let l = last_of_and _ (list_any is_trailers w.asks) k.0 in
     let some : is_empty w.original.trailers ≡ false = (last_of_and _ (is_empty w.original.trailers) l.0).1 in
-    let none : answer_to is_trailers w ≡ None = ap (option_map (λ (q : Part × Common). q.1)) (none_of_kind is_trailers w.asks w.answers l.1) in
+    let none : answer_to is_trailers w ≡ None = ap (option_map (λ (q : AskedPart × Common). q.1)) (none_of_kind is_trailers w.asks w.answers l.1) in
     goes_on c w (with_ask x w) h
     (not_ended (is_body_done c w) (is_empty w.original.trailers) (changed_trailers c w) some
     (is_trailers_none (is_empty w.original.trailers) (is_body_done c w) (answer_to is_trailers w) _ w.released (is_empty (out w)) (next_trailers w) x _ none r f))
     (inr (
       ap (filter_map answered_piece) (zip_longer w.asks (x ∷ []) w.answers s.counts),
       subst (λ l. IsPrefix (kept c w h).passing l)
-          (ap (λ l. if is_passing w then drop (sum_by (λ (q : Part × Common). length (bytes_in q.0)) l) w.original.body else []) (sym (zip_longer w.asks (x ∷ []) w.answers s.counts))
-          ∙ ap (λ b. if b then drop (sum_by (λ (q : Part × Common). length (bytes_in q.0)) (pairs (with_ask x w))) w.original.body else []) (sym (passing_same w x s.counts k.1)))
+          (ap (λ l. if is_passing w then drop (sum_by (λ (q : AskedPart × Common). length (bytes_in q.0)) l) w.original.body else []) (sym (zip_longer w.asks (x ∷ []) w.answers s.counts))
+          ∙ ap (λ b. if b then drop (sum_by (λ (q : AskedPart × Common). length (bytes_in q.0)) (pairs (with_ask x w))) w.original.body else []) (sym (passing_same w x s.counts k.1)))
           (itself (kept c w h).passing),
     ))
 
-pub ask_grows : (c : CourseConfig) (d : Direction) (w : Course) (x : Part) → Sound c w → next c w ≡ Some x → Grown (changed c d w) (changed c d (with_ask x w))
+pub ask_grows : (c : CourseConfig) (d : Direction) (w : Course) (x : AskedPart) → Sound c w → next c w ≡ Some x → Grown (changed c d w) (changed c d (with_ask x w))
 ask_grows c d w x s e =
     by_kept c d w (with_ask x w) refl
-    (ap (λ l. replacement_at (is_bare d w.original.length) (option_map (λ (q : Part × Common). q.1) (find (λ (q : Part × Common). is_headers q.0) l))) (zip_longer w.asks (x ∷ []) w.answers s.counts))
+    (ap (λ l. replacement_at (is_bare d w.original.length) (option_map (λ (q : AskedPart × Common). q.1) (find (λ (q : AskedPart × Common). is_headers q.0) l))) (zip_longer w.asks (x ∷ []) w.answers s.counts))
     (λ h f g. ask_kept c w h x s f (next_is c w x e))
 
-no_more : (c : CourseConfig) (d : Direction) (w : Course) (l : List Part) → l ≡ [] → changed c d (record w { asks = w.asks ++ l }) ≡ changed c d w
+no_more : (c : CourseConfig) (d : Direction) (w : Course) (l : List AskedPart) → l ≡ [] → changed c d (record w { asks = w.asks ++ l }) ≡ changed c d w
 no_more c d w l e = ap (λ k. changed c d (record w { asks = k })) (ap (λ l. w.asks ++ l) e ∙ append-nil w.asks)
 
 pub one_asked_grows : (c : CourseConfig) (d : Direction) (w : Course) → Sound c w → Grown (changed c d w) (changed c d (one_asked c d w))
 unfolding one_asked
 one_asked_grows c d w s = by (is_permitted c d w) (next c w) refl refl
   where
-    by : (b : Bool) (n : Option Part) → b ≡ is_permitted c d w → n ≡ next c w → Grown (changed c d w) (changed c d (one_asked c d w))
+    by : (b : Bool) (n : Option AskedPart) → b ≡ is_permitted c d w → n ≡ next c w → Grown (changed c d w) (changed c d (one_asked c d w))
     by false n e f = grown_same (changed c d w) (changed c d (one_asked c d w))
         (no_more c d w (due c d w) (ap (λ b. if b then option_to_list (next c w) else []) (sym e)))
     by true None e f = grown_same (changed c d w) (changed c d (one_asked c d w))
@@ -498,18 +498,18 @@ one_asked_grows c d w s = by (is_permitted c d w) (next c w) refl refl
 
 -- What has ended stays, when the rest passes
 
-and_second : (x y : Bool) → (x && y) ≡ true → y ≡ true
+pub and_second : (x y : Bool) → (x && y) ≡ true → y ≡ true
 and_second true y e = e
 and_second false y e = absurd cc
 
-no_bytes : (asks : List Part) → list_any is_body asks ≡ false → sum_by (λ p. length (bytes_in p)) asks ≡ 0
+no_bytes : (asks : List AskedPart) → list_any is_body asks ≡ false → sum_by (λ p. length (bytes_in p)) asks ≡ 0
 no_bytes [] e = refl
 no_bytes (p ∷ asks) e =
     let one : length (bytes_in p) ≡ 0 = bytes_of p (or_first (is_body p) (list_any is_body asks) e) in
     let more : sum_by (λ p. length (bytes_in p)) asks ≡ 0 = no_bytes asks (or_second (is_body p) (list_any is_body asks) e) in
     sum_by-cons (λ p. length (bytes_in p)) p asks ∙ sum_none (length (bytes_in p)) (sum_by (λ p. length (bytes_in p)) asks) one more
   where
-    bytes_of : (p : Part) → is_body p ≡ false → length (bytes_in p) ≡ 0
+    bytes_of : (p : AskedPart) → is_body p ≡ false → length (bytes_in p) ≡ 0
     bytes_of (Headers fields last) e = refl
     bytes_of (Body bytes last) e = absurd cc
     bytes_of (Trailers fields) e = refl
@@ -518,12 +518,12 @@ no_bytes (p ∷ asks) e =
     sum_none n m e f = omega arith
 
 -- where no body ask is out, the asked bytes are the answered ones
-covered_pairs : (asks : List Part) (answers : List Common) → list_any is_body (drop (length answers) asks) ≡ false
-    → sum_by (λ (q : Part × Common). length (bytes_in q.0)) (zip asks answers) ≡ sum_by (λ p. length (bytes_in p)) asks
+covered_pairs : (asks : List AskedPart) (answers : List Common) → list_any is_body (drop (length answers) asks) ≡ false
+    → sum_by (λ (q : AskedPart × Common). length (bytes_in q.0)) (zip asks answers) ≡ sum_by (λ p. length (bytes_in p)) asks
 covered_pairs [] answers e = refl
 covered_pairs (p ∷ asks) [] e = sym (no_bytes (p ∷ asks) e)
 covered_pairs (p ∷ asks) (a ∷ answers) e =
-    sum_by-cons (λ (q : Part × Common). length (bytes_in q.0)) (p, a) (zip asks answers)
+    sum_by-cons (λ (q : AskedPart × Common). length (bytes_in q.0)) (p, a) (zip asks answers)
     ∙ ap (λ n. length (bytes_in p) + n) (covered_pairs asks answers e)
     ∙ sym (sum_by-cons (λ p. length (bytes_in p)) p asks)
 
@@ -531,7 +531,7 @@ drop_none : {A : Type 0} (n : ℕ) → drop {A = A} n [] ≡ []
 drop_none ℕ.zero = refl
 drop_none (ℕ.suc n) = refl
 
-left_at : (left : List ℕ) (bare s k whole : Bool) (m : BodyMode) (ns : Option Part) (lt : Bool) (x y z : Part)
+left_at : (left : List ℕ) (bare s k whole : Bool) (m : BodyMode) (ns : Option AskedPart) (lt : Bool) (x y z : AskedPart)
     → (bare ≡ true → left ≡ []) → (is_none ns ≡ true → left ≡ []) → (is_buffered m ≡ true → k ≡ true → left ≡ [])
     → whole ≡ true → passing_at false false s m k ≡ false
     → is_none (body_at bare s m ns (if whole && not k then Some x else None)
@@ -549,7 +549,7 @@ left_at left false false false whole Partial ns true x y z f g h w p n = absurd 
 left_at left false false false true Partial ns false x y z f g h w p n = absurd cc
 left_at left false false false false Partial ns false x y z f g h w p n = absurd cc
 
-streamed_left : (piece : ℕ) (o : Original) (asks : List Part) (rest : List ℕ) → is_none (next_streamed piece o asks rest) ≡ true → rest ≡ []
+streamed_left : (piece : ℕ) (o : Original) (asks : List AskedPart) (rest : List ℕ) → is_none (next_streamed piece o asks rest) ≡ true → rest ≡ []
 streamed_left piece o asks [] e = refl
 streamed_left piece o asks (b ∷ rest) e = absurd cc
 
@@ -613,7 +613,7 @@ end_is_final c d w s h e f t =
     passing_final : (r p : Bool) → r ≡ w.released → p ≡ is_passing w → w.original.whole ≡ true → is_body_done c w ≡ true
         → (kept c (with_released w) h).passing ≡ (kept c w h).passing
     passing_final r true i j whole done =
-        ap (λ b. if b then drop (sum_by (λ (q : Part × Common). length (bytes_in q.0)) (pairs w)) w.original.body else []) j
+        ap (λ b. if b then drop (sum_by (λ (q : AskedPart × Common). length (bytes_in q.0)) (pairs w)) w.original.body else []) j
     passing_final true false i j whole done = absurd (clash (ap (λ b. passing_at b (list_any is_body (out w)) (is_stopped w) (mode w) (list_any is_body w.asks)) i ∙ sym j))
       where
         clash : true ≡ false → ⊥
@@ -622,4 +622,4 @@ end_is_final c d w s h e f t =
         let k = not_both w.released (list_any is_body (out w)) (is_none (next_body c w)) (sym i) (and_second w.original.whole _ done) in
         ap (λ n. drop n w.original.body) (covered_pairs w.asks w.answers k.0)
         ∙ none_left c w s (sym i) whole k.0 k.1 (sym j)
-        ∙ ap (λ b. if b then drop (sum_by (λ (q : Part × Common). length (bytes_in q.0)) (pairs w)) w.original.body else []) j
+        ∙ ap (λ b. if b then drop (sum_by (λ (q : AskedPart × Common). length (bytes_in q.0)) (pairs w)) w.original.body else []) j

@@ -7,9 +7,9 @@ use Rattle.http_model.specs.declared.types.Direction.TheVariants.{Request, Respo
 use Rattle.filter_model.specs.Config.{FilterConfig}
 use Rattle.filter_model.specs.Course.{Changed, Outgoing, changed}
 use Rattle.filter_model.specs.Grown.{Grown}
-use Rattle.filter_model.specs.Account.{Account, Fate, Live, Left, Replied, Aborted, course, front, to, is_given, is_given_at}
+use Rattle.filter_model.specs.Account.{ExchangeAccount, Fate, Live, Left, Replied, Aborted, course, front, to, is_given, is_given_at}
 use Rattle.filter_model.specs.Step.{after, step, is_live}
-use Rattle.filter_model.specs.View.{Entry, Given}
+use Rattle.filter_model.specs.View.{ViewEntry, Given}
 use Rattle.filter_model.specs.Right.{Call, Stepped, Took, Nexted, Failed, IsHistory, account, is_done, is_done_at, is_reply_given}
 use Rattle.filter_model.specs.declared.calls.Side.{Side}
 use Rattle.filter_model.specs.declared.calls.Side.TheVariants.{Client, Upstream}
@@ -17,13 +17,10 @@ use Rattle.filter_model.specs.declared.calls.Taken.TheVariants.{Piece}
 use Rattle.filter_model.proofs.EachStep.{fate_stays}
 use Rattle.filter_model.proofs.Ended.{changed-head}
 use Rattle.filter_model.proofs.GivenRight.{StepGrown, FateGrown, step_grown, step-given, gives, no_given, along, fits}
+use Rattle.filter_model.proofs.CourseGrows.{and_first}
 
 clash : true ≡ false → ⊥
 clash e = cc
-
-and_first : (x y : Bool) → (x && y) ≡ true → x ≡ true
-and_first true y e = refl
-and_first false y e = e
 
 -- what was given whole stays so, while the message stays as it is and nothing more is given
 stays_at : (d : Direction) (o o' : Option Outgoing) (m m' : Changed) (f f' g g' : List ℕ) → o ≡ m.head → o' ≡ m'.head → Grown m m' → (f' ≡ f) ⊎ (m.head ≡ None) → g' ≡ g
@@ -52,7 +49,7 @@ head_some d (Some h) m f g i t = no_head h (sym i)
     no_head : (h : Outgoing) → None ≡ Some h → ⊥
     no_head h e = cc
 
-given_stays : (c : FilterConfig) (e : Entry) (a : Account) (d : Direction) → StepGrown c a (step c e a) → gives e d ≡ [] → is_given c a d ≡ true → is_given c (step c e a) d ≡ true
+given_stays : (c : FilterConfig) (e : ViewEntry) (a : ExchangeAccount) (d : Direction) → StepGrown c a (step c e a) → gives e d ≡ [] → is_given c a d ≡ true → is_given c (step c e a) d ≡ true
 unfolding is_given
 given_stays c e a Request g n t =
     stays_at Request (course Request a).head (course Request (step c e a)).head (changed c.course Request (course Request a)) (changed c.course Request (course Request (step c e a)))
@@ -69,7 +66,7 @@ given_stays c e a Response g n t =
     front_or (inl x) = inl x
     front_or (inr x) = inr x.0
 
-reply_stays : (c : FilterConfig) (e : Entry) (a : Account) (s : Side) (r r' : List ℕ) → StepGrown c a (step c e a) → gives e (to s) ≡ [] → r' ≡ r → front Response (step c e a) ≡ front Response a
+reply_stays : (c : FilterConfig) (e : ViewEntry) (a : ExchangeAccount) (s : Side) (r r' : List ℕ) → StepGrown c a (step c e a) → gives e (to s) ≡ [] → r' ≡ r → front Response (step c e a) ≡ front Response a
     → is_reply_given c a r s ≡ true → is_reply_given c (step c e a) r' s ≡ true
 reply_stays c e a Client r r' g n i j t =
     ap (λ l. bytes_eq l (front Response (step c e a) ++ r')) (step-given c e Response a ∙ ap (λ l. a.response.given ++ l) n ∙ append-nil a.response.given)
@@ -77,13 +74,13 @@ reply_stays c e a Client r r' g n i j t =
 reply_stays c e a Upstream r r' g n i j t = given_stays c e a Request g n t
 
 -- a reply comes only before the response's head, and so not to a client that is done
-late_reply : (c : FilterConfig) (e : Entry) (a : Account) (s : Side) (r : List ℕ) → StepGrown c a (step c e a) → gives e (to s) ≡ [] → (changed c.course Response (course Response a)).head ≡ None
+late_reply : (c : FilterConfig) (e : ViewEntry) (a : ExchangeAccount) (s : Side) (r : List ℕ) → StepGrown c a (step c e a) → gives e (to s) ≡ [] → (changed c.course Response (course Response a)).head ≡ None
     → is_given c a (to s) ≡ true → is_reply_given c (step c e a) r s ≡ true
 unfolding is_given
 late_reply c e a Client r g n k t = absurd (head_some Response (course Response a).head _ _ _ (changed-head c.course Response (course Response a) ∙ k) t)
 late_reply c e a Upstream r g n k t = given_stays c e a Request g n t
 
-done_by : (c : FilterConfig) (e : Entry) (a : Account) (s : Side) → StepGrown c a (step c e a) → gives e (to s) ≡ [] → (f f' : Fate) → FateGrown c a (step c e a) f f' → (is_live f ≡ false → f' ≡ f)
+done_by : (c : FilterConfig) (e : ViewEntry) (a : ExchangeAccount) (s : Side) → StepGrown c a (step c e a) → gives e (to s) ≡ [] → (f f' : Fate) → FateGrown c a (step c e a) f f' → (is_live f ≡ false → f' ≡ f)
     → is_done_at c a s f ≡ true → is_done_at c (step c e a) s f' ≡ true
 done_by c e a s g n Left f' k l t = ap (is_done_at c (step c e a) s) (l refl)
 done_by c e a s g n (Replied r) (Replied r') k l t = reply_stays c e a s r r' g n k.0 k.1 t
@@ -96,7 +93,7 @@ done_by c e a s g n Live Left k l t = refl
 done_by c e a s g n Live Aborted k l t = given_stays c e a (to s) g n t
 done_by c e a s g n Live (Replied r) k l t = late_reply c e a s r g n k t
 
-done_step : (c : FilterConfig) (e : Entry) (a : Account) (s : Side) → StepGrown c a (step c e a) → gives e (to s) ≡ [] → is_done c a s ≡ true → is_done c (step c e a) s ≡ true
+done_step : (c : FilterConfig) (e : ViewEntry) (a : ExchangeAccount) (s : Side) → StepGrown c a (step c e a) → gives e (to s) ≡ [] → is_done c a s ≡ true → is_done c (step c e a) s ≡ true
 done_step c e a s g n t = done_by c e a s g n a.fate (step c e a).fate g.fate (λ l. fate_stays c e a l) t
 
 pub done_stays : (c : FilterConfig) (call : Call) (h : List Call) → IsHistory c (call ∷ h) → (s : Side) → is_done c (account c h) s ≡ true → is_done c (account c (call ∷ h)) s ≡ true

@@ -3,11 +3,11 @@ use Rattle.std.proofs.Common.{inl, inr, sym, ◌∙◌, ap, subst, refl, arith}
 use Rattle.std.specs.Prelude.{ℕ, suc, ◌≡◌, ◌⊎◌, ◌+◌, ◌≤◌, Bool, true, false, List, Option, Some, None, if◌then◌else◌, is_some}
 use Rattle.http_model.specs.declared.types.Direction.TheVariants.{Request, Response}
 use Rattle.filter_model.specs.Config.{FilterConfig}
-use Rattle.filter_model.specs.Account.{Account, Fate, Live, Aborted, gathered, account_rules, unsent, is_finished, is_released}
+use Rattle.filter_model.specs.Account.{ExchangeAccount, Fate, Live, Aborted, gathered, account_rules, unsent, is_finished, is_released}
 use Rattle.filter_model.specs.Cut.{Cut, Over, loss_cut, over_cut, peer_cut, processor_cut, is_whole_and_done}
 use Rattle.filter_model.specs.Answers.{answered}
 use Rattle.filter_model.specs.Step.{rules, step, step_if, after_end, still_counts, under_cut, by_reply, reply_to, lets_pass, cut, cut_at, is_departure, is_live}
-use Rattle.filter_model.specs.View.{Entry, Bytes, End, Lost, Answered, TooLong, Closed, NoStream, Tick, Starved, Sent, Given}
+use Rattle.filter_model.specs.View.{ViewEntry, Bytes, End, Lost, Answered, TooLong, Closed, NoStream, Tick, Starved, Sent, Given}
 use Rattle.filter_model.specs.declared.calls.Loss.{Loss}
 use Rattle.filter_model.specs.declared.calls.Loss.TheVariants.{NoDial, Broken}
 use Rattle.filter_model.specs.declared.calls.Side.{Side}
@@ -16,11 +16,11 @@ use Rattle.filter_model.proofs.Kept.{departure_kept, gathered-fate}
 
 -- An end is final
 
-after_end-fate : (e : Entry) (a : Account) (b : Bool) → (after_end e a b).fate ≡ a.fate
+after_end-fate : (e : ViewEntry) (a : ExchangeAccount) (b : Bool) → (after_end e a b).fate ≡ a.fate
 after_end-fate e a true = gathered-fate e a
 after_end-fate e a false = refl
 
-pub fate_stays : (c : FilterConfig) (e : Entry) (a : Account) → is_live a.fate ≡ false → (step c e a).fate ≡ a.fate
+pub fate_stays : (c : FilterConfig) (e : ViewEntry) (a : ExchangeAccount) → is_live a.fate ≡ false → (step c e a).fate ≡ a.fate
 unfolding step
 fate_stays c e a n = ap (λ b. (step_if c e a b).fate) n ∙ after_end-fate e a (still_counts e)
 
@@ -36,7 +36,7 @@ one_counted : (n : ℕ) (b : Bool) → AtMostOne n (if b then suc n else n)
 one_counted n true = (omega arith, omega arith)
 one_counted n false = (omega arith, omega arith)
 
-gathered-sent : (e : Entry) (a : Account) → AtMostOne a.sent (gathered e a).sent
+gathered-sent : (e : ViewEntry) (a : ExchangeAccount) → AtMostOne a.sent (gathered e a).sent
 unfolding account_rules
 gathered-sent Sent a = one_counted a.sent (is_some (unsent a))
 gathered-sent (Bytes s bytes) a = same_count a.sent a.sent refl
@@ -50,7 +50,7 @@ gathered-sent (Tick n) a = same_count a.sent a.sent refl
 gathered-sent Starved a = same_count a.sent a.sent refl
 gathered-sent (Given s bytes) a = same_count a.sent a.sent refl
 
-if-sent : (c : FilterConfig) (e : Entry) (a : Account) (b : Bool) → AtMostOne a.sent (step_if c e a b).sent
+if-sent : (c : FilterConfig) (e : ViewEntry) (a : ExchangeAccount) (b : Bool) → AtMostOne a.sent (step_if c e a b).sent
 unfolding rules
 if-sent c e a true =
     subst (AtMostOne a.sent) (sym (departure_kept c e (gathered e a) (is_departure e (gathered e a))).sent) (gathered-sent e a)
@@ -60,7 +60,7 @@ if-sent c e a false = by (still_counts e)
     by true = gathered-sent e a
     by false = same_count a.sent a.sent refl
 
-pub sent_at_most_one : (c : FilterConfig) (e : Entry) (a : Account) → AtMostOne a.sent (step c e a).sent
+pub sent_at_most_one : (c : FilterConfig) (e : ViewEntry) (a : ExchangeAccount) → AtMostOne a.sent (step c e a).sent
 unfolding step
 sent_at_most_one c e a = if-sent c e a (is_live a.fate)
 
@@ -69,7 +69,7 @@ sent_at_most_one c e a = if-sent c e a (is_live a.fate)
 clash : true ≡ false → ⊥
 clash e = cc
 
-by_reply_ends : (o : Option (List ℕ)) → is_live (by_reply o) ≡ false
+pub by_reply_ends : (o : Option (List ℕ)) → is_live (by_reply o) ≡ false
 by_reply_ends None = refl
 by_reply_ends (Some r) = refl
 
@@ -102,31 +102,31 @@ over_ends c true y = refl
 over_ends c false true = refl
 over_ends c false false = tt
 
-cut_ends : (c : FilterConfig) (e : Entry) (a : Account) (k : Option Cut) → EndsAll c k → (under_cut c e a k).fate ≡ Live → k ≡ None
+cut_ends : (c : FilterConfig) (e : ViewEntry) (a : ExchangeAccount) (k : Option Cut) → EndsAll c k → (under_cut c e a k).fate ≡ Live → k ≡ None
 unfolding rules
 cut_ends c e a None l f = refl
 cut_ends c e a (Some k) l f = absurd (ends (lets_pass c k) a.fate _ (reply_to k _) l f)
 
 -- it comes behind everything, or to a side that was whole and done
-abbrev pub WasDone : FilterConfig → Side → Account → Type 0
+abbrev pub WasDone : FilterConfig → Side → ExchangeAccount → Type 0
 WasDone c s a = (is_finished c a ≡ true) ⊎ (is_whole_and_done c a s ≡ true)
 
-lost_on : (c : FilterConfig) (s : Side) (how : Loss) (a : Account) → (under_cut c (Lost s how) a (cut c (Lost s how) a)).fate ≡ Live → WasDone c s a
+lost_on : (c : FilterConfig) (s : Side) (how : Loss) (a : ExchangeAccount) → (under_cut c (Lost s how) a (cut c (Lost s how) a)).fate ≡ Live → WasDone c s a
 unfolding cut processor_cut over_cut peer_cut
 lost_on c s how a f =
     let x = loss_none (is_whole_and_done c a s) (loss_cut s how) (is_finished c a) (is_released a) (over_cut c (answered c (Lost s how) a)) c (over_ends c _ _) (loss_ends c s how) in
     x.0 (cut_ends c (Lost s how) a (cut c (Lost s how) a) x.1 f)
 
-same_done : (c : FilterConfig) (s : Side) (how : Loss) (a : Account) → WasDone c s (gathered (Lost s how) a) → WasDone c s a
+same_done : (c : FilterConfig) (s : Side) (how : Loss) (a : ExchangeAccount) → WasDone c s (gathered (Lost s how) a) → WasDone c s a
 unfolding account_rules
 same_done c Client how a x = x
 same_done c Upstream how a x = x
 
-lost_if : (c : FilterConfig) (s : Side) (how : Loss) (a : Account) (b : Bool) → b ≡ true → (step_if c (Lost s how) a b).fate ≡ Live → WasDone c s a
+lost_if : (c : FilterConfig) (s : Side) (how : Loss) (a : ExchangeAccount) (b : Bool) → b ≡ true → (step_if c (Lost s how) a b).fate ≡ Live → WasDone c s a
 unfolding rules
 lost_if c s how a true i f = same_done c s how a (lost_on c s how (gathered (Lost s how) a) f)
 lost_if c s how a false i f = absurd (clash (sym i))
 
-pub lost_done : (c : FilterConfig) (s : Side) (how : Loss) (a : Account) → is_live a.fate ≡ true → (step c (Lost s how) a).fate ≡ Live → WasDone c s a
+pub lost_done : (c : FilterConfig) (s : Side) (how : Loss) (a : ExchangeAccount) → is_live a.fate ≡ true → (step c (Lost s how) a).fate ≡ Live → WasDone c s a
 unfolding step
 lost_done c s how a l f = lost_if c s how a (is_live a.fate) l f

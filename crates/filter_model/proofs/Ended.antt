@@ -11,7 +11,7 @@ use Rattle.http_model.specs.Bytes.{is_empty}
 use Rattle.http_model.specs.Heads.{is_bodiless}
 use Rattle.http_model.specs.declared.types.Direction.{Direction}
 use Rattle.filter_model.specs.Config.{CourseConfig}
-use Rattle.filter_model.specs.Course.{Course, Part, Trailers, Outgoing, changed, changed_at, kept, replacement, body_of, is_headers, is_body, is_trailers, is_stopped, is_buffered, is_settled, mode, mode_at, replaces, answer_to, out, head_may_go, is_body_done, body_done_at, trailers_at, next, next_at, or_else, next_body, body_at, next_trailers, due, is_permitted, queue, ask_limit}
+use Rattle.filter_model.specs.Course.{Course, AskedPart, Trailers, Outgoing, changed, changed_at, kept, replacement, body_of, is_headers, is_body, is_trailers, is_stopped, is_buffered, is_settled, mode, mode_at, replaces, answer_to, out, head_may_go, is_body_done, body_done_at, trailers_at, next, next_at, or_else, next_body, body_at, next_trailers, due, is_permitted, queue, ask_limit}
 use Rattle.filter_model.proofs.Firm.{Firm}
 use Rattle.filter_model.proofs.AtRest.{Rested}
 
@@ -55,7 +55,7 @@ permits c d w a s g =
 nothing_due : (c : CourseConfig) (d : Direction) (w : Course) → due c d w ≡ [] → is_permitted c d w ≡ true → next c w ≡ None
 nothing_due c d w e p = by (next c w) (ap (λ b. if b then option_to_list (next c w) else []) (sym p) ∙ e)
   where
-    by : (n : Option Part) → option_to_list n ≡ [] → n ≡ None
+    by : (n : Option AskedPart) → option_to_list n ≡ [] → n ≡ None
     by None e = refl
     by (Some x) e = absurd cc
 
@@ -67,11 +67,11 @@ pub record AllMade (c : CourseConfig) (w : Course) : Type 0 where
   pub body : next_body c w ≡ None
   pub trailers : next_trailers w ≡ None
 
-some_or : (b t : Option Part) → or_else b t ≡ None → (b ≡ None) × (t ≡ None)
+some_or : (b t : Option AskedPart) → or_else b t ≡ None → (b ≡ None) × (t ≡ None)
 some_or None t e = (refl, e)
 some_or (Some x) t e = absurd cc
 
-none_next : (head : Option (List Field)) (bodiless r first o s : Bool) (b t : Option Part) → is_some head ≡ true → r ≡ false → o ≡ false → next_at head bodiless r first o s b t ≡ None
+none_next : (head : Option (List Field)) (bodiless r first o s : Bool) (b t : Option AskedPart) → is_some head ≡ true → r ≡ false → o ≡ false → next_at head bodiless r first o s b t ≡ None
     → (s ≡ true) ⊎ ((first ≡ false) × (b ≡ None) × (t ≡ None))
 none_next None bodiless r first o s b t h i j e = absurd cc
 none_next (Some l) bodiless true first o s b t h i j e = absurd cc
@@ -80,7 +80,7 @@ none_next (Some l) bodiless false true o false b t h i j e = absurd cc
 none_next (Some l) bodiless false false true false b t h i j e = absurd cc
 none_next (Some l) bodiless false false false false b t h i j e = let k = some_or b t e in inr (refl, k.0, k.1)
 
-stopped_body : (bodiless s : Bool) (m : BodyMode) (x y z : Option Part) → s ≡ true → body_at bodiless s m x y z ≡ None
+stopped_body : (bodiless s : Bool) (m : BodyMode) (x y z : Option AskedPart) → s ≡ true → body_at bodiless s m x y z ≡ None
 stopped_body true s m x y z e = refl
 stopped_body false true m x y z e = refl
 stopped_body false false m x y z e = absurd cc
@@ -89,7 +89,7 @@ answers_none : (answers : List Common) → list_any (λ (a : Common). a.replace)
 answers_none [] e n = true_is_not_false (sym e)
 answers_none (a ∷ answers) e n = omega (arith, n)
 
-asks_some : (asks : List Part) (n : ℕ) → length asks ≡ n → (n ≡ 0 → ⊥) → is_empty asks ≡ false
+asks_some : (asks : List AskedPart) (n : ℕ) → length asks ≡ n → (n ≡ 0 → ⊥) → is_empty asks ≡ false
 asks_some [] n e f = absurd (f (sym e))
 asks_some (p ∷ asks) n e f = refl
 
@@ -97,7 +97,7 @@ and_false : (x y : Bool) → y ≡ false → (x && y) ≡ false
 and_false true y e = e
 and_false false y e = refl
 
-no_trailers_due : (a r s w e t : Bool) (x : Part) → s ≡ true → (if a && not r && not s && w && not e && not t then Some x else None) ≡ None
+no_trailers_due : (a r s w e t : Bool) (x : AskedPart) → s ≡ true → (if a && not r && not s && w && not e && not t then Some x else None) ≡ None
 no_trailers_due true true s w e t x i = refl
 no_trailers_due true false true w e t x i = refl
 no_trailers_due true false false w e t x i = absurd cc
@@ -125,15 +125,15 @@ all_made c w h r a e =
 
 -- The head may go
 
-answered : (kind : Part → Bool) (asks : List Part) (answers : List Common) → length asks ≡ length answers → list_any kind asks ≡ true
-    → is_some (option_map (λ (q : Part × Common). q.1) (find (λ (q : Part × Common). kind q.0) (zip asks answers))) ≡ true
+answered : (kind : AskedPart → Bool) (asks : List AskedPart) (answers : List Common) → length asks ≡ length answers → list_any kind asks ≡ true
+    → is_some (option_map (λ (q : AskedPart × Common). q.1) (find (λ (q : AskedPart × Common). kind q.0) (zip asks answers))) ≡ true
 answered kind [] answers n e = absurd cc
 answered kind (p ∷ asks) [] n e = absurd (omega (arith, n))
 answered kind (p ∷ asks) (a ∷ answers) n e = by (kind p) e (answered kind asks answers (omega (arith, n)))
   where
     by : (b : Bool) → (b || list_any kind asks) ≡ true
-        → (list_any kind asks ≡ true → is_some (option_map (λ (q : Part × Common). q.1) (find (λ (q : Part × Common). kind q.0) (zip asks answers))) ≡ true)
-        → is_some (option_map (λ (q : Part × Common). q.1) (cond b (Some (p, a)) (find (λ (q : Part × Common). kind q.0) (zip asks answers)))) ≡ true
+        → (list_any kind asks ≡ true → is_some (option_map (λ (q : AskedPart × Common). q.1) (find (λ (q : AskedPart × Common). kind q.0) (zip asks answers))) ≡ true)
+        → is_some (option_map (λ (q : AskedPart × Common). q.1) (cond b (Some (p, a)) (find (λ (q : AskedPart × Common). kind q.0) (zip asks answers)))) ≡ true
     by true e i = refl
     by false e i = i e
 
@@ -148,7 +148,7 @@ settles w f h a e = by (is_some w.original.head) w.released w.modes.headers (is_
     by true false true false i j k e = answered is_headers w.asks w.answers a (f.first (sym j) (sym k))
 
 -- in BUFFERED a body that isn't there any more to be asked was asked
-buffered_asked : (bodiless s : Bool) (m : BodyMode) (x z : Option Part) (whole asked : Bool) (p : Part) → bodiless ≡ false → s ≡ false → is_buffered m ≡ true → whole ≡ true
+buffered_asked : (bodiless s : Bool) (m : BodyMode) (x z : Option AskedPart) (whole asked : Bool) (p : AskedPart) → bodiless ≡ false → s ≡ false → is_buffered m ≡ true → whole ≡ true
     → body_at bodiless s m x (if whole && not asked then Some p else None) z ≡ None → asked ≡ true
 buffered_asked true s m x z whole asked p i j k l e = absurd cc
 buffered_asked false true m x z whole asked p i j k l e = absurd cc
@@ -202,7 +202,7 @@ ends true false None f true t e g = refl
 ends true false None f false t e g = absurd cc
 ends false empty x f passes t e g = absurd cc
 
-body_done : (whole released out : Bool) (b : Option Part) → whole ≡ true → (released ≡ true) ⊎ ((out ≡ false) × (b ≡ None)) → body_done_at whole released out b ≡ true
+body_done : (whole released out : Bool) (b : Option AskedPart) → whole ≡ true → (released ≡ true) ⊎ ((out ≡ false) × (b ≡ None)) → body_done_at whole released out b ≡ true
 body_done true true out b e g = refl
 body_done true false out b e (inl g) = absurd cc
 body_done true false true b e (inr g) = absurd (true_is_not_false g.0)
@@ -210,7 +210,7 @@ body_done true false false None e (inr g) = refl
 body_done true false false (Some x) e (inr g) = absurd cc
 body_done false released out b e g = absurd cc
 
-trailers_pass : (released empty : Bool) (t : Option Part) → (released ≡ true) ⊎ ((empty ≡ true) × (t ≡ None)) → (released || (empty && is_none t)) ≡ true
+trailers_pass : (released empty : Bool) (t : Option AskedPart) → (released ≡ true) ⊎ ((empty ≡ true) × (t ≡ None)) → (released || (empty && is_none t)) ≡ true
 trailers_pass true empty t g = refl
 trailers_pass false empty t (inl g) = absurd cc
 trailers_pass false true None (inr g) = refl

@@ -3,15 +3,15 @@ use Rattle.std.proofs.Common.{inl, inr, ◌∙◌, ap, refl}
 use Rattle.std.specs.Prelude.{◌≡◌, Bool, true, false, ◌||◌, List, [], ◌∷◌, Option, Some, None, filter_map, if◌then◌else◌, is_some}
 use Rattle.http_model.specs.Bytes.{is_empty}
 use Rattle.filter_model.specs.Config.{FilterConfig}
-use Rattle.filter_model.specs.Account.{Account, gathered}
+use Rattle.filter_model.specs.Account.{ExchangeAccount, gathered}
 use Rattle.filter_model.specs.Step.{rules, step, step_if, after, after_end, still_counts, under_departure, is_departure, is_live, with_ending}
-use Rattle.filter_model.specs.View.{Entry, Given}
+use Rattle.filter_model.specs.View.{ViewEntry, Given}
 use Rattle.filter_model.specs.Right.{Call, Stepped, Took, Nexted, Failed, IsHistory, account, ask_due, end_given, end_due, due, EndsRight}
 use Rattle.filter_model.specs.declared.calls.Next.TheVariants as next
 use Rattle.filter_model.specs.declared.calls.Taken.TheVariants.{Piece}
 use Rattle.filter_model.proofs.Kept.{departure_kept, gathered-ending}
 
-after_end-ending : (e : Entry) (a : Account) (b : Bool) → (after_end e a b).ending ≡ a.ending
+after_end-ending : (e : ViewEntry) (a : ExchangeAccount) (b : Bool) → (after_end e a b).ending ≡ a.ending
 after_end-ending e a true = gathered-ending e a
 after_end-ending e a false = refl
 
@@ -19,22 +19,22 @@ kept_ending : (x : Option Bool) (b : Bool) (z : Option Bool) (q p : Bool) → x 
 kept_ending (Some v) b z q p e = e
 kept_ending None b z q p e = absurd cc
 
-with_ending-kept : (c : FilterConfig) (a : Account) (b : Bool) → a.ending ≡ Some b → (with_ending c a).ending ≡ Some b
+with_ending-kept : (c : FilterConfig) (a : ExchangeAccount) (b : Bool) → a.ending ≡ Some b → (with_ending c a).ending ≡ Some b
 unfolding with_ending
 with_ending-kept c a b e = kept_ending a.ending b _ a.unopened (is_empty a.made) e
 
-step_if-ending : (c : FilterConfig) (e : Entry) (a : Account) (live b : Bool) → a.ending ≡ Some b → (step_if c e a live).ending ≡ Some b
+step_if-ending : (c : FilterConfig) (e : ViewEntry) (a : ExchangeAccount) (live b : Bool) → a.ending ≡ Some b → (step_if c e a live).ending ≡ Some b
 unfolding rules
 step_if-ending c e a true b p =
-    let g : Account = gathered e a in
+    let g : ExchangeAccount = gathered e a in
     with_ending-kept c (under_departure c e g (is_departure e g)) b ((departure_kept c e g (is_departure e g)).ending ∙ gathered-ending e a ∙ p)
 step_if-ending c e a false b p = after_end-ending e a (still_counts e) ∙ p
 
-step-ending : (c : FilterConfig) (e : Entry) (a : Account) (b : Bool) → a.ending ≡ Some b → (step c e a).ending ≡ Some b
+step-ending : (c : FilterConfig) (e : ViewEntry) (a : ExchangeAccount) (b : Bool) → a.ending ≡ Some b → (step c e a).ending ≡ Some b
 unfolding step
 step-ending c e a b p = step_if-ending c e a (is_live a.fate) b p
 
-stepped : (c : FilterConfig) (e : Entry) (a : Account) (given : List Bool) → EndsRight given a.ending → EndsRight given (step c e a).ending
+stepped : (c : FilterConfig) (e : ViewEntry) (a : ExchangeAccount) (given : List Bool) → EndsRight given a.ending → EndsRight given (step c e a).ending
 stepped c e a given (inl p) = inl p
 stepped c e a given (inr (inl (p, q))) = inr (inl (step-ending c e a true p, q))
 stepped c e a given (inr (inr (p, q))) = inr (inr (step-ending c e a false p, q))

@@ -10,7 +10,7 @@ use Rattle.http_model.specs.Bytes.{is_empty}
 use Rattle.http_model.specs.Heads.{is_bodiless}
 use Rattle.http_model.specs.declared.types.Direction.{Direction}
 use Rattle.filter_model.specs.Config.{CourseConfig}
-use Rattle.filter_model.specs.Course.{Course, Part, Headers, Body, Trailers, pairs, out, is_body, is_headers, is_trailers, is_stopped, is_buffered, mode_at, answer_to, replaces, head_may_go, next, next_at, due, is_permitted, one_asked, asked, ask_limit}
+use Rattle.filter_model.specs.Course.{Course, AskedPart, Headers, Body, Trailers, pairs, out, is_body, is_headers, is_trailers, is_stopped, is_buffered, mode_at, answer_to, replaces, head_may_go, next, next_at, due, is_permitted, one_asked, asked, ask_limit}
 use Rattle.filter_model.proofs.CourseGrows.{Sound, with_answer, pairs_more, once_out, zip_longer}
 use Rattle.filter_model.proofs.Sounds.{one_asked_sound}
 
@@ -23,7 +23,7 @@ true_is_not_false e = cc
 
 -- Answers
 
-found : (k : Part × Common → Bool) (xs ys : List (Part × Common)) → is_some (find k xs) ≡ true → find k (xs ++ ys) ≡ find k xs
+found : (k : AskedPart × Common → Bool) (xs ys : List (AskedPart × Common)) → is_some (find k xs) ≡ true → find k (xs ++ ys) ≡ find k xs
 found k [] ys e = absurd cc
 found k (x ∷ xs) ys e = by (k x) e (found k xs ys)
   where
@@ -32,7 +32,7 @@ found k (x ∷ xs) ys e = by (k x) e (found k xs ys)
     by true e i = refl
     by false e i = i e
 
-found_last : (k : Part × Common → Bool) (xs : List (Part × Common)) (q : Part × Common) → k q ≡ true → find k xs ≡ None → find k (xs ++ q ∷ []) ≡ Some q
+found_last : (k : AskedPart × Common → Bool) (xs : List (AskedPart × Common)) (q : AskedPart × Common) → k q ≡ true → find k xs ≡ None → find k (xs ++ q ∷ []) ≡ Some q
 found_last k [] q e f = ap (λ b. cond b (Some q) None) e
 found_last k (x ∷ xs) q e f = by (k x) f (found_last k xs q e)
   where
@@ -40,7 +40,7 @@ found_last k (x ∷ xs) q e f = by (k x) f (found_last k xs q e)
     by true f i = absurd cc
     by false f i = i f
 
-some_last : (k : Part × Common → Bool) (xs : List (Part × Common)) (q : Part × Common) → k q ≡ true → is_some (find k (xs ++ q ∷ [])) ≡ true
+some_last : (k : AskedPart × Common → Bool) (xs : List (AskedPart × Common)) (q : AskedPart × Common) → k q ≡ true → is_some (find k (xs ++ q ∷ [])) ≡ true
 some_last k [] q e = ap (λ b. is_some (cond b (Some q) None)) e
 some_last k (x ∷ xs) q e = by (k x) (some_last k xs q e)
   where
@@ -48,36 +48,36 @@ some_last k (x ∷ xs) q e = by (k x) (some_last k xs q e)
     by true i = refl
     by false i = i
 
-some_mapped : (o : Option (Part × Common)) → is_some (option_map (λ (q : Part × Common). q.1) o) ≡ is_some o
+some_mapped : (o : Option (AskedPart × Common)) → is_some (option_map (λ (q : AskedPart × Common). q.1) o) ≡ is_some o
 some_mapped None = refl
 some_mapped (Some q) = refl
 
-replaced_some : (o : Option (Part × Common)) → replaces (option_map (λ (q : Part × Common). q.1) o) ≡ true → is_some o ≡ true
+replaced_some : (o : Option (AskedPart × Common)) → replaces (option_map (λ (q : AskedPart × Common). q.1) o) ≡ true → is_some o ≡ true
 replaced_some None e = absurd cc
 replaced_some (Some q) e = refl
 
-abbrev value_in : Option (Part × Common) → Option Common
-value_in o = option_map (λ (q : Part × Common). q.1) o
+abbrev value_in : Option (AskedPart × Common) → Option Common
+value_in o = option_map (λ (q : AskedPart × Common). q.1) o
 
-abbrev Stops : List (Part × Common) → Type 0
-Stops l = (replaces (value_in (find (λ (q : Part × Common). is_headers q.0) l)) ≡ true) ⊎ (is_some (value_in (find (λ (q : Part × Common). is_body q.0) l)) ≡ true)
+abbrev Stops : List (AskedPart × Common) → Type 0
+Stops l = (replaces (value_in (find (λ (q : AskedPart × Common). is_headers q.0) l)) ≡ true) ⊎ (is_some (value_in (find (λ (q : AskedPart × Common). is_body q.0) l)) ≡ true)
 
 -- an answer that is there stays the first
-stops_on : (l more : List (Part × Common)) → Stops l → Stops (l ++ more)
+stops_on : (l more : List (AskedPart × Common)) → Stops l → Stops (l ++ more)
 stops_on l more (inl e) =
-    inl (ap (λ o. replaces (value_in o)) (found (λ (q : Part × Common). is_headers q.0) l more (replaced_some (find (λ (q : Part × Common). is_headers q.0) l) e)) ∙ e)
+    inl (ap (λ o. replaces (value_in o)) (found (λ (q : AskedPart × Common). is_headers q.0) l more (replaced_some (find (λ (q : AskedPart × Common). is_headers q.0) l) e)) ∙ e)
 stops_on l more (inr e) =
-    let k : is_some (find (λ (q : Part × Common). is_body q.0) l) ≡ true = sym (some_mapped (find (λ (q : Part × Common). is_body q.0) l)) ∙ e in
-    inr (ap (λ o. is_some (value_in o)) (found (λ (q : Part × Common). is_body q.0) l more k) ∙ e)
+    let k : is_some (find (λ (q : AskedPart × Common). is_body q.0) l) ≡ true = sym (some_mapped (find (λ (q : AskedPart × Common). is_body q.0) l)) ∙ e in
+    inr (ap (λ o. is_some (value_in o)) (found (λ (q : AskedPart × Common). is_body q.0) l more k) ∙ e)
 
 -- one that replaces is an answer to headers or to a body
-stops_at : (c : CourseConfig) (w : Course) (a : Common) (p : Part) (more : List Part) → Sound c w → out w ≡ p ∷ more → (is_trailers p ≡ true → a.replace ≡ false) → a.replace ≡ true
+stops_at : (c : CourseConfig) (w : Course) (a : Common) (p : AskedPart) (more : List AskedPart) → Sound c w → out w ≡ p ∷ more → (is_trailers p ≡ true → a.replace ≡ false) → a.replace ≡ true
     → Stops (pairs w ++ (p, a) ∷ [])
 stops_at c w a (Headers fields last) more s o t e =
-    let none : find (λ (q : Part × Common). is_headers q.0) (pairs w) ≡ None = once_out is_headers w.asks w.answers s.once_headers (ap (list_any is_headers) o) in
-    inl (ap (λ o. replaces (value_in o)) (found_last (λ (q : Part × Common). is_headers q.0) (pairs w) (Headers fields last, a) refl none) ∙ e)
+    let none : find (λ (q : AskedPart × Common). is_headers q.0) (pairs w) ≡ None = once_out is_headers w.asks w.answers s.once_headers (ap (list_any is_headers) o) in
+    inl (ap (λ o. replaces (value_in o)) (found_last (λ (q : AskedPart × Common). is_headers q.0) (pairs w) (Headers fields last, a) refl none) ∙ e)
 stops_at c w a (Body bytes last) more s o t e =
-    inr (some_mapped (find (λ (q : Part × Common). is_body q.0) (pairs w ++ (Body bytes last, a) ∷ [])) ∙ some_last (λ (q : Part × Common). is_body q.0) (pairs w) (Body bytes last, a) refl)
+    inr (some_mapped (find (λ (q : AskedPart × Common). is_body q.0) (pairs w ++ (Body bytes last, a) ∷ [])) ∙ some_last (λ (q : AskedPart × Common). is_body q.0) (pairs w) (Body bytes last, a) refl)
 stops_at c w a (Trailers fields) more s o t e = absurd (true_is_not_false (sym e ∙ t refl))
 
 or_either : (x y : Bool) → (x || (y || false)) ≡ true → (x ≡ true) ⊎ (y ≡ true)
@@ -85,7 +85,7 @@ or_either true y e = inl refl
 or_either false true e = inr refl
 or_either false false e = absurd cc
 
-pub join_firm : (c : CourseConfig) (w : Course) (a : Common) (p : Part) (more : List Part) → Firm w → Sound c w → out w ≡ p ∷ more → (is_trailers p ≡ true → a.replace ≡ false)
+pub join_firm : (c : CourseConfig) (w : Course) (a : Common) (p : AskedPart) (more : List AskedPart) → Firm w → Sound c w → out w ≡ p ∷ more → (is_trailers p ≡ true → a.replace ≡ false)
     → Firm (with_answer a w)
 join_firm c w a p more f s o t = record {
   first = f.first;
@@ -99,35 +99,35 @@ join_firm c w a p more f s o t = record {
 
 -- Asks
 
-answers_stay : (w : Course) (l : List Part) (kind : Part → Bool) → length w.answers ≤ length w.asks → answer_to kind (record w { asks = w.asks ++ l }) ≡ answer_to kind w
-answers_stay w l kind n = ap (λ x. value_in (find (λ (q : Part × Common). kind q.0) x)) (zip_longer w.asks l w.answers n)
+answers_stay : (w : Course) (l : List AskedPart) (kind : AskedPart → Bool) → length w.answers ≤ length w.asks → answer_to kind (record w { asks = w.asks ++ l }) ≡ answer_to kind w
+answers_stay w l kind n = ap (λ x. value_in (find (λ (q : AskedPart × Common). kind q.0) x)) (zip_longer w.asks l w.answers n)
 
-next_first : (head : Option (List Field)) (bodiless r first o s : Bool) (b t : Option Part) (x : Part) → first ≡ true → next_at head bodiless r first o s b t ≡ Some x → is_headers x ≡ true
+next_first : (head : Option (List Field)) (bodiless r first o s : Bool) (b t : Option AskedPart) (x : AskedPart) → first ≡ true → next_at head bodiless r first o s b t ≡ Some x → is_headers x ≡ true
 next_first None bodiless r first o s b t x i e = absurd cc
 next_first (Some l) bodiless true first o s b t x i e = absurd cc
 next_first (Some l) bodiless false first o true b t x i e = absurd cc
 next_first (Some l) bodiless false true o false b t x i e = ap is_headers_in (sym e)
   where
-    is_headers_in : Option Part → Bool
+    is_headers_in : Option AskedPart → Bool
     is_headers_in None = false
     is_headers_in (Some p) = is_headers p
 next_first (Some l) bodiless false false o false b t x i e = absurd cc
 
 -- what is due is nothing or one ask
 pub DueIs : CourseConfig → Direction → Course → Type 0
-DueIs c d w = (due c d w ≡ []) ⊎ ((x : Part) × (due c d w ≡ x ∷ []) × (next c w ≡ Some x) × (is_permitted c d w ≡ true))
+DueIs c d w = (due c d w ≡ []) ⊎ ((x : AskedPart) × (due c d w ≡ x ∷ []) × (next c w ≡ Some x) × (is_permitted c d w ≡ true))
 
 due_is : (c : CourseConfig) (d : Direction) (w : Course) → DueIs c d w
 unfolding DueIs
 due_is c d w = by (is_permitted c d w) (next c w) refl refl
   where
-    by : (b : Bool) (n : Option Part) → b ≡ is_permitted c d w → n ≡ next c w
-        → (due c d w ≡ []) ⊎ ((x : Part) × (due c d w ≡ x ∷ []) × (next c w ≡ Some x) × (is_permitted c d w ≡ true))
+    by : (b : Bool) (n : Option AskedPart) → b ≡ is_permitted c d w → n ≡ next c w
+        → (due c d w ≡ []) ⊎ ((x : AskedPart) × (due c d w ≡ x ∷ []) × (next c w ≡ Some x) × (is_permitted c d w ≡ true))
     by false n e f = inl (ap (λ b. if b then option_to_list (next c w) else []) (sym e))
     by true None e f = inl (ap (λ b. if b then option_to_list (next c w) else []) (sym e) ∙ ap option_to_list (sym f))
     by true (Some x) e f = inr (x, ap (λ b. if b then option_to_list (next c w) else []) (sym e) ∙ ap option_to_list (sym f), sym f, sym e)
 
-first_stays : (c : CourseConfig) (w : Course) (x : Part) → Firm w → next c w ≡ Some x → w.modes.headers ≡ true → list_any is_headers (w.asks ++ x ∷ []) ≡ true
+first_stays : (c : CourseConfig) (w : Course) (x : AskedPart) → Firm w → next c w ≡ Some x → w.modes.headers ≡ true → list_any is_headers (w.asks ++ x ∷ []) ≡ true
 unfolding next
 first_stays c w x f e h = list_any-append is_headers w.asks (x ∷ []) ∙ by (is_empty w.asks) refl
   where
@@ -152,7 +152,7 @@ one_asked_firm c d w f s = record {
   stops = λ e. subst Stops (sym (zip_longer w.asks (due c d w) w.answers s.counts)) (f.stops e);
 }
   where
-    by : (due c d w ≡ []) ⊎ ((x : Part) × (due c d w ≡ x ∷ []) × (next c w ≡ Some x) × (is_permitted c d w ≡ true))
+    by : (due c d w ≡ []) ⊎ ((x : AskedPart) × (due c d w ≡ x ∷ []) × (next c w ≡ Some x) × (is_permitted c d w ≡ true))
         → w.modes.headers ≡ true → is_empty (w.asks ++ due c d w) ≡ false → list_any is_headers (w.asks ++ due c d w) ≡ true
     by (inl e) h n =
         let same : w.asks ++ due c d w ≡ w.asks = ap (λ l. w.asks ++ l) e ∙ append-nil w.asks in
@@ -176,7 +176,7 @@ asked_firm c d w f s =
 abbrev MadeAll : CourseConfig → Direction → ℕ → Course → Type 0
 MadeAll c d n w = (due c d w ≡ []) ⊎ (min (length w.answers) w.sent + n ≤ length w.asks)
 
-same_course : (w : Course) (l : List Part) → l ≡ [] → record w { asks = w.asks ++ l } ≡ w
+same_course : (w : Course) (l : List AskedPart) → l ≡ [] → record w { asks = w.asks ++ l } ≡ w
 same_course w l e = ap (λ k. record w { asks = k }) (ap (λ k. w.asks ++ k) e ∙ append-nil w.asks)
 
 one_more : (c : CourseConfig) (d : Direction) (n : ℕ) (w : Course) → MadeAll c d n w → MadeAll c d (suc n) (one_asked c d w)
@@ -184,7 +184,7 @@ unfolding one_asked DueIs
 one_more c d n w (inl e) = inl (ap (due c d) (same_course w (due c d w) e) ∙ e)
 one_more c d n w (inr h) = by (due_is c d w)
   where
-    by : (due c d w ≡ []) ⊎ ((x : Part) × (due c d w ≡ x ∷ []) × (next c w ≡ Some x) × (is_permitted c d w ≡ true)) → MadeAll c d (suc n) (record w { asks = w.asks ++ due c d w })
+    by : (due c d w ≡ []) ⊎ ((x : AskedPart) × (due c d w ≡ x ∷ []) × (next c w ≡ Some x) × (is_permitted c d w ≡ true)) → MadeAll c d (suc n) (record w { asks = w.asks ++ due c d w })
     by (inl e) = inl (ap (due c d) (same_course w (due c d w) e) ∙ e)
     by (inr (x, e, k, p)) = inr (omega (arith, h, length-append w.asks (due c d w), ap length e))
 

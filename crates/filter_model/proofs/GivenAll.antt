@@ -13,6 +13,7 @@ use Rattle.filter_model.specs.Course.{Changed, Outgoing, body_of}
 use Rattle.filter_model.specs.Outgoing.{IsWire, InSize, body_bytes, end_bytes, written_at, written_behind, carried, is_all, behind_last}
 use Rattle.filter_model.specs.Account.{given_count, is_all_given, is_given_at}
 use Rattle.filter_model.proofs.Chunks.{body_counted, last_counted, behind_body, behind_end, behind_more}
+use Rattle.filter_model.proofs.CourseGrows.{and_first, and_second}
 
 -- Lists
 
@@ -22,14 +23,6 @@ empty_by (x ∷ xs) e = absurd (omega (arith, e))
 
 no_rest : {A : Type 0} (xs rest : List A) (n : ℕ) → length xs ≡ n → length (xs ++ rest) ≡ n → rest ≡ []
 no_rest xs rest n e f = empty_by rest (omega (arith, e, f, length-append xs rest))
-
-and_first : (x y : Bool) → (x && y) ≡ true → x ≡ true
-and_first true y e = refl
-and_first false y e = e
-
-and_second : (x y : Bool) → (x && y) ≡ true → y ≡ true
-and_second true y e = e
-and_second false y e = absurd cc
 
 -- The body of a wire
 

@@ -12,7 +12,7 @@ use Rattle.http_model.specs.declared.types.Framing.TheVariants.{NoField, Length,
 use Rattle.filter_model.specs.Course.{Changed, Outgoing}
 use Rattle.filter_model.specs.Outgoing.{IsWire, body_bytes, end_bytes, written, written_at, written_behind, passing_limit}
 use Rattle.filter_model.specs.Grown.{BodyGoesOn, GoesOn, Grown}
-use Rattle.filter_model.proofs.Kept.{onward}
+use Rattle.http_model.proofs.BodiesGrow.{before_both, is_first, onward}
 
 cons_is_not_none : {A : Type 0} (x : A) (xs : List A) → x ∷ xs ≡ [] → ⊥
 cons_is_not_none x xs e = cc
@@ -40,12 +40,6 @@ pub grown_same : (m m' : Changed) → m' ≡ m → Grown m m'
 grown_same m m' e = inr (inl e)
 
 -- Prefixes
-
-pub before_both : {A : Type 0} (xs ys zs : List A) → IsPrefix ys zs → IsPrefix (xs ++ ys) (xs ++ zs)
-before_both xs ys zs p = record { rest = p.rest; whole = append_assoc xs ys p.rest ∙ ap (λ l. xs ++ l) p.whole }
-
-pub is_first : {A : Type 0} (xs ys : List A) → IsPrefix xs (xs ++ ys)
-is_first xs ys = record { rest = ys; whole = refl }
 
 body_bytes-append : (f : Framing) (xs ys : List (List ℕ)) → body_bytes f (xs ++ ys) ≡ body_bytes f xs ++ body_bytes f ys
 body_bytes-append NoField xs ys = flat_map-append (λ p. p) xs ys

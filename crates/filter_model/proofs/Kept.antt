@@ -11,19 +11,14 @@ use Rattle.http_model.specs.declared.types.Direction.{Direction}
 use Rattle.http_model.specs.declared.types.Direction.TheVariants.{Request, Response}
 use Rattle.filter_model.specs.Config.{FilterConfig}
 use Rattle.filter_model.specs.Course.{asked}
-use Rattle.filter_model.specs.Account.{Account, Flow, course, gathered, settled, account_rules, is_released, is_finished}
+use Rattle.filter_model.specs.Account.{ExchangeAccount, Flow, course, gathered, settled, account_rules, is_released, is_finished}
 use Rattle.filter_model.specs.Cut.{Cut, PartAnswer, part_answer}
 use Rattle.filter_model.specs.Answers.{answered, answered_by, part_answered, overridden, override_of, joined, asked_in, ask_of}
 use Rattle.filter_model.specs.Step.{rules, accepted, no_cut, under_cut, under_departure, step_if, step, after_end, still_counts, cut, is_departure, is_live, effect}
-use Rattle.filter_model.specs.View.{Entry, Bytes, End, Lost, Answered, TooLong, Closed, NoStream, Tick, Starved, Sent, Given}
+use Rattle.filter_model.specs.View.{ViewEntry, Bytes, End, Lost, Answered, TooLong, Closed, NoStream, Tick, Starved, Sent, Given}
+use Rattle.http_model.proofs.BodiesGrow.{itself, onward}
 
 -- Prefixes
-
-pub itself : {A : Type 0} (xs : List A) → IsPrefix xs xs
-itself xs = record { rest = []; whole = append-nil xs }
-
-pub onward : {A : Type 0} {xs ys zs : List A} → IsPrefix xs ys → IsPrefix ys zs → IsPrefix xs zs
-onward {xs = xs} p q = record { rest = p.rest ++ q.rest; whole = sym (append_assoc xs p.rest q.rest) ∙ ap (λ l. l ++ q.rest) p.whole ∙ q.whole }
 
 -- What stays
 
@@ -35,14 +30,14 @@ pub record FlowKept (f f' : Flow) : Type 0 where
   -- a head that was chosen stays
   pub unchosen : f'.course.head ≡ None → f.course.head ≡ None
 
-pub record Kept (a a' : Account) : Type 0 where
+pub record Kept (a a' : ExchangeAccount) : Type 0 where
   pub request : FlowKept a.request a'.request
   pub response : FlowKept a.response a'.response
   pub ending : a'.ending ≡ a.ending
   pub sent : a'.sent ≡ a.sent
 
 -- and what only a cut or an ask changes
-pub record AllKept (a a' : Account) : Type 0 where
+pub record AllKept (a a' : ExchangeAccount) : Type 0 where
   pub kept : Kept a a'
   pub made : a'.made ≡ a.made
   pub fate : a'.fate ≡ a.fate
@@ -59,10 +54,10 @@ flow_then f g h x y = record {
   unchosen = λ n. x.unchosen (y.unchosen n);
 }
 
-kept_itself : (a : Account) → Kept a a
+kept_itself : (a : ExchangeAccount) → Kept a a
 kept_itself a = record { request = flow_itself a.request; response = flow_itself a.response; ending = refl; sent = refl }
 
-pub kept_then : (a b d : Account) → Kept a b → Kept b d → Kept a d
+pub kept_then : (a b d : ExchangeAccount) → Kept a b → Kept b d → Kept a d
 kept_then a b d x y = record {
   request = flow_then a.request b.request d.request x.request y.request;
   response = flow_then a.response b.response d.response x.response y.response;
@@ -70,12 +65,12 @@ kept_then a b d x y = record {
   sent = y.sent ∙ x.sent;
 }
 
-all_itself : (a : Account) → AllKept a a
+all_itself : (a : ExchangeAccount) → AllKept a a
 all_itself a = record { kept = kept_itself a; made = refl; fate = refl }
 
 -- Answers
 
-joined_kept : (c : FilterConfig) (x : PartAnswer) (d : Direction) (m : Option (PartModes × PartModes)) (a : Account)
+joined_kept : (c : FilterConfig) (x : PartAnswer) (d : Direction) (m : Option (PartModes × PartModes)) (a : ExchangeAccount)
     → AllKept a (overridden d m (joined c (record x { direction = d }) a))
 joined_kept c x Request m a = record {
   kept = record {
@@ -98,11 +93,11 @@ joined_kept c x Response m a = record {
   fate = refl;
 }
 
-part_kept : (c : FilterConfig) (modes : Option ModeNumbers) (a : Account) (p : Option PartAnswer) → AllKept a (part_answered c modes a p)
+part_kept : (c : FilterConfig) (modes : Option ModeNumbers) (a : ExchangeAccount) (p : Option PartAnswer) → AllKept a (part_answered c modes a p)
 part_kept c modes a None = all_itself a
 part_kept c modes a (Some p) = joined_kept c p p.direction (override_of c p.kind modes) a
 
-answered_by_kept : (c : FilterConfig) (x : Answer) (a : Account) (t : Option Span) → AllKept a (answered_by c x a t)
+answered_by_kept : (c : FilterConfig) (x : Answer) (a : ExchangeAccount) (t : Option Span) → AllKept a (answered_by c x a t)
 answered_by_kept c x a (Some t) = record {
   kept = record {
     request = record { brought = refl; ended = refl; given = refl; original = refl; unchosen = λ n. n };
@@ -115,12 +110,12 @@ answered_by_kept c x a (Some t) = record {
 }
 answered_by_kept c x a None = part_kept c x.modes a (part_answer x.member)
 
-pub answered_kept : (c : FilterConfig) (e : Entry) (a : Account) → AllKept a (answered c e a)
+pub answered_kept : (c : FilterConfig) (e : ViewEntry) (a : ExchangeAccount) → AllKept a (answered c e a)
 unfolding answered
 answered_kept c (Answered (Some x)) a = answered_by_kept c x a x.timeout
 answered_kept c _ a = all_itself a
 
-pub accepted_kept : (c : FilterConfig) (e : Entry) (a : Account) (b : Bool) → AllKept a (accepted c e a b)
+pub accepted_kept : (c : FilterConfig) (e : ViewEntry) (a : ExchangeAccount) (b : Bool) → AllKept a (accepted c e a b)
 accepted_kept c e a true = all_itself a
 accepted_kept c e a false = answered_kept c e a
 
@@ -130,7 +125,7 @@ pub was_none : {A : Type 0} (x y : Option A) (b : Bool) → (if is_none x && b t
 was_none None y b e = refl
 was_none (Some z) y b e = e
 
-pub settled_kept : (c : FilterConfig) (a : Account) → AllKept a (settled c a)
+pub settled_kept : (c : FilterConfig) (a : ExchangeAccount) → AllKept a (settled c a)
 unfolding rules
 settled_kept c a = record {
   kept = record {
@@ -143,7 +138,7 @@ settled_kept c a = record {
   fate = refl;
 }
 
-effect_kept : (c : FilterConfig) (k : Cut) (a : Account) → Kept a (effect c k a)
+effect_kept : (c : FilterConfig) (k : Cut) (a : ExchangeAccount) → Kept a (effect c k a)
 unfolding rules
 effect_kept c k a = record {
   request = record { brought = refl; ended = refl; given = refl; original = refl; unchosen = λ n. n };
@@ -152,7 +147,7 @@ effect_kept c k a = record {
   sent = refl;
 }
 
-asked_kept : (c : FilterConfig) (d : Direction) (a : Account) → Kept a (asked_in c d a)
+asked_kept : (c : FilterConfig) (d : Direction) (a : ExchangeAccount) → Kept a (asked_in c d a)
 unfolding rules
 asked_kept c Request a = record {
   request = record { brought = refl; ended = refl; given = refl; original = refl; unchosen = λ n. n };
@@ -167,11 +162,11 @@ asked_kept c Response a = record {
   sent = refl;
 }
 
-asked-fate : (c : FilterConfig) (d : Direction) (a : Account) → (asked_in c d a).fate ≡ a.fate
+asked-fate : (c : FilterConfig) (d : Direction) (a : ExchangeAccount) → (asked_in c d a).fate ≡ a.fate
 unfolding asked_in
 asked-fate c d a = refl
 
-asked-made : (c : FilterConfig) (d : Direction) (a : Account) → IsPrefix a.made (asked_in c d a).made
+asked-made : (c : FilterConfig) (d : Direction) (a : ExchangeAccount) → IsPrefix a.made (asked_in c d a).made
 unfolding asked_in
 asked-made c d a = record { rest = map (ask_of d) (drop (length (course d a).asks) (asked c.course d (course d a)).asks); whole = refl }
 
@@ -181,17 +176,17 @@ at {ys = ys} e = record { rest = []; whole = append-nil ys ∙ sym e }
 -- An entry that is no cut
 
 -- without a cut the fate stays, and asks are only added
-pub record NoCutKept (a a' : Account) : Type 0 where
+pub record NoCutKept (a a' : ExchangeAccount) : Type 0 where
   pub kept : Kept a a'
   pub made : IsPrefix a.made a'.made
   pub fate : a'.fate ≡ a.fate
 
-pub no_cut_kept : (c : FilterConfig) (e : Entry) (a : Account) → NoCutKept a (no_cut c e a)
+pub no_cut_kept : (c : FilterConfig) (e : ViewEntry) (a : ExchangeAccount) → NoCutKept a (no_cut c e a)
 unfolding no_cut
 no_cut_kept c e a =
-    let x : Account = accepted c e a (is_released a || is_finished c a) in
-    let y : Account = settled c x in
-    let z : Account = asked_in c Request y in
+    let x : ExchangeAccount = accepted c e a (is_released a || is_finished c a) in
+    let y : ExchangeAccount = settled c x in
+    let z : ExchangeAccount = asked_in c Request y in
     let k : AllKept a x = accepted_kept c e a (is_released a || is_finished c a) in
     let l : AllKept x y = settled_kept c x in
     record {
@@ -201,30 +196,30 @@ no_cut_kept c e a =
       fate = asked-fate c Response z ∙ asked-fate c Request y ∙ l.fate ∙ k.fate;
     }
 
-under_cut_kept : (c : FilterConfig) (e : Entry) (a : Account) (k : Option Cut) → Kept a (under_cut c e a k)
+under_cut_kept : (c : FilterConfig) (e : ViewEntry) (a : ExchangeAccount) (k : Option Cut) → Kept a (under_cut c e a k)
 unfolding under_cut
 under_cut_kept c e a (Some k) =
-    let x : Account = settled c a in
-    let y : Account = effect c k x in
+    let x : ExchangeAccount = settled c a in
+    let y : ExchangeAccount = effect c k x in
     kept_then a x (settled c y) (settled_kept c a).kept (kept_then x y (settled c y) (effect_kept c k x) (settled_kept c y).kept)
 under_cut_kept c e a None = (no_cut_kept c e a).kept
 
-under_cut-made : (c : FilterConfig) (e : Entry) (a : Account) (k : Option Cut) → IsPrefix a.made (under_cut c e a k).made
+under_cut-made : (c : FilterConfig) (e : ViewEntry) (a : ExchangeAccount) (k : Option Cut) → IsPrefix a.made (under_cut c e a k).made
 unfolding rules
 under_cut-made c e a (Some k) = itself a.made
 under_cut-made c e a None = (no_cut_kept c e a).made
 
-pub departure_kept : (c : FilterConfig) (e : Entry) (a : Account) (b : Bool) → Kept a (under_departure c e a b)
+pub departure_kept : (c : FilterConfig) (e : ViewEntry) (a : ExchangeAccount) (b : Bool) → Kept a (under_departure c e a b)
 departure_kept c e a true = record { request = flow_itself a.request; response = flow_itself a.response; ending = refl; sent = refl }
 departure_kept c e a false = under_cut_kept c e a (cut c e a)
 
-departure-made : (c : FilterConfig) (e : Entry) (a : Account) (b : Bool) → IsPrefix a.made (under_departure c e a b).made
+departure-made : (c : FilterConfig) (e : ViewEntry) (a : ExchangeAccount) (b : Bool) → IsPrefix a.made (under_departure c e a b).made
 departure-made c e a true = itself a.made
 departure-made c e a false = under_cut-made c e a (cut c e a)
 
 -- What an entry brings
 
-gathered-made : (e : Entry) (a : Account) → (gathered e a).made ≡ a.made
+gathered-made : (e : ViewEntry) (a : ExchangeAccount) → (gathered e a).made ≡ a.made
 unfolding account_rules
 gathered-made (Bytes s bytes) a = refl
 gathered-made (End s) a = refl
@@ -238,7 +233,7 @@ gathered-made Starved a = refl
 gathered-made Sent a = refl
 gathered-made (Given s bytes) a = refl
 
-pub gathered-ending : (e : Entry) (a : Account) → (gathered e a).ending ≡ a.ending
+pub gathered-ending : (e : ViewEntry) (a : ExchangeAccount) → (gathered e a).ending ≡ a.ending
 unfolding account_rules
 gathered-ending (Bytes s bytes) a = refl
 gathered-ending (End s) a = refl
@@ -252,7 +247,7 @@ gathered-ending Starved a = refl
 gathered-ending Sent a = refl
 gathered-ending (Given s bytes) a = refl
 
-pub gathered-fate : (e : Entry) (a : Account) → (gathered e a).fate ≡ a.fate
+pub gathered-fate : (e : ViewEntry) (a : ExchangeAccount) → (gathered e a).fate ≡ a.fate
 unfolding account_rules
 gathered-fate (Bytes s bytes) a = refl
 gathered-fate (End s) a = refl
@@ -268,18 +263,18 @@ gathered-fate (Given s bytes) a = refl
 
 -- Asks that were made stay made
 
-after_end-made : (e : Entry) (a : Account) (b : Bool) → IsPrefix a.made (after_end e a b).made
+after_end-made : (e : ViewEntry) (a : ExchangeAccount) (b : Bool) → IsPrefix a.made (after_end e a b).made
 after_end-made e a true = at (gathered-made e a)
 after_end-made e a false = itself a.made
 
-step_if-made : (c : FilterConfig) (e : Entry) (a : Account) (b : Bool) → IsPrefix a.made (step_if c e a b).made
+step_if-made : (c : FilterConfig) (e : ViewEntry) (a : ExchangeAccount) (b : Bool) → IsPrefix a.made (step_if c e a b).made
 unfolding rules
 step_if-made c e a true =
-    let g : Account = gathered e a in
+    let g : ExchangeAccount = gathered e a in
     onward (at (gathered-made e a)) (departure-made c e g (is_departure e g))
 step_if-made c e a false = after_end-made e a (still_counts e)
 
 -- whatever comes, the asks that were made stay the first
-pub step-made : (c : FilterConfig) (e : Entry) (a : Account) → IsPrefix a.made (step c e a).made
+pub step-made : (c : FilterConfig) (e : ViewEntry) (a : ExchangeAccount) → IsPrefix a.made (step c e a).made
 unfolding step
 step-made c e a = step_if-made c e a (is_live a.fate)

@@ -14,7 +14,7 @@ use Rattle.http_model.specs.Reads.{Original}
 use Rattle.http_model.specs.Reader.{Extends}
 use Rattle.http_model.specs.declared.types.Direction.{Direction}
 use Rattle.filter_model.specs.Config.{CourseConfig}
-use Rattle.filter_model.specs.Course.{Course, Part, Headers, Body, Trailers, Outgoing, committed, outgoing, out, bytes_in, asked_bytes, is_body, is_headers, is_trailers, is_stopped, next_body, body_at, next, next_at, next_trailers, answer_to, replaces, is_buffered, next_streamed, lacks_last, is_permitted, due, one_asked, asked, changed}
+use Rattle.filter_model.specs.Course.{Course, AskedPart, Headers, Body, Trailers, Outgoing, committed, outgoing, out, bytes_in, asked_bytes, is_body, is_headers, is_trailers, is_stopped, next_body, body_at, next, next_at, next_trailers, answer_to, replaces, is_buffered, next_streamed, lacks_last, is_permitted, due, one_asked, asked, changed}
 use Rattle.filter_model.specs.Grown.{Grown}
 use Rattle.filter_model.proofs.CourseGrows.{Sound, once, with_original, with_released, with_answer, with_ask, drop_more, any_of_drop, once_out, or_first, or_second, any_same, drop_longer, plus_none, last_of_and, one_asked_grows}
 use Rattle.filter_model.proofs.Growing.{grown_then}
@@ -86,7 +86,7 @@ more_counts (z ∷ xs) [] x more y e = omega arith
 more_counts [] (w ∷ ys) x more y e = absurd cc
 more_counts (z ∷ xs) (w ∷ ys) x more y e = let k = more_counts xs ys x more y e in omega arith
 
-pub join_sound : (c : CourseConfig) (w : Course) (a : Common) (p : Part) (more : List Part) → Sound c w → out w ≡ p ∷ more → Sound c (with_answer a w)
+pub join_sound : (c : CourseConfig) (w : Course) (a : Common) (p : AskedPart) (more : List AskedPart) → Sound c w → out w ≡ p ∷ more → Sound c (with_answer a w)
 join_sound c w a p more s o = record {
   counts = more_counts w.asks w.answers p more a o;
   head_read = s.head_read;
@@ -159,10 +159,10 @@ gone_headers : (c : CourseConfig) (w : Course) (h : Outgoing) → Sound c w → 
 gone_headers c w h s r (inl e) = s.no_headers h e r
 gone_headers c w h s r (inr (inl e)) = not_any _ (λ t. true_is_not_false (sym (any_of_drop is_headers w.asks w.answers t) ∙ s.headers e))
 gone_headers c w h s r (inr (inr e)) = not_any _ (λ t.
-    none_and_some (answer_to is_headers w) (ap (option_map (λ (q : Part × Common). q.1)) (once_out is_headers w.asks w.answers s.once_headers t)) e)
+    none_and_some (answer_to is_headers w) (ap (option_map (λ (q : AskedPart × Common). q.1)) (once_out is_headers w.asks w.answers s.once_headers t)) e)
 
-answered_made : (asks : List Part) (answers : List Common)
-    → is_some (option_map (λ (q : Part × Common). q.1) (find (λ (q : Part × Common). is_headers q.0) (zip asks answers))) ≡ true → is_empty asks ≡ false
+answered_made : (asks : List AskedPart) (answers : List Common)
+    → is_some (option_map (λ (q : AskedPart × Common). q.1) (find (λ (q : AskedPart × Common). is_headers q.0) (zip asks answers))) ≡ true → is_empty asks ≡ false
 answered_made [] answers e = absurd cc
 answered_made (p ∷ asks) answers e = refl
 
@@ -197,7 +197,7 @@ commit_sound c d w s = record {
 longer_counts : {A : Type 0} (n : ℕ) (xs : List A) (x : A) → n ≤ length xs → n ≤ length (xs ++ x ∷ [])
 longer_counts n xs x e = let l = length-append xs (x ∷ []) in omega arith
 
-once_more : (kind : Part → Bool) (asks : List Part) (x : Part) → kind x ≡ false → once kind asks ≡ true → once kind (asks ++ x ∷ []) ≡ true
+once_more : (kind : AskedPart → Bool) (asks : List AskedPart) (x : AskedPart) → kind x ≡ false → once kind asks ≡ true → once kind (asks ++ x ∷ []) ≡ true
 once_more kind [] x e f = ap (λ b. if b then true else true) e
 once_more kind (p ∷ asks) x e f =
     ap (λ b. if kind p then not b else once kind (asks ++ x ∷ [])) (any_same kind asks x e)
@@ -207,7 +207,7 @@ once_more kind (p ∷ asks) x e f =
     by true k o o' g f = f
     by false k o o' g f = g f
 
-once_new : (kind : Part → Bool) (asks : List Part) (x : Part) → list_any kind asks ≡ false → once kind (asks ++ x ∷ []) ≡ true
+once_new : (kind : AskedPart → Bool) (asks : List AskedPart) (x : AskedPart) → list_any kind asks ≡ false → once kind (asks ++ x ∷ []) ≡ true
 once_new kind [] x e = by (kind x)
   where
     by : (b : Bool) → (if b then true else true) ≡ true
@@ -221,7 +221,7 @@ not_empty : {A : Type 0} (xs : List A) (x : A) → is_empty (xs ++ x ∷ []) ≡
 not_empty [] x = refl
 not_empty (y ∷ xs) x = refl
 
-out_more : (c : CourseConfig) (w : Course) (x : Part) → Sound c w → (kind : Part → Bool) → kind x ≡ false → list_any kind (out (with_ask x w)) ≡ list_any kind (out w)
+out_more : (c : CourseConfig) (w : Course) (x : AskedPart) → Sound c w → (kind : AskedPart → Bool) → kind x ≡ false → list_any kind (out (with_ask x w)) ≡ list_any kind (out w)
 out_more c w x s kind e = ap (list_any kind) (drop_longer w.asks (x ∷ []) w.answers s.counts) ∙ any_same kind (out w) x e
 
 drop_all : {A : Type 0} (n : ℕ) (xs : List A) → drop (n + length xs) xs ≡ []
@@ -237,7 +237,7 @@ drop_all n xs = length-none (drop (n + length xs) xs) (length-drop (n + length x
 pub some_not_none : (w : Course) → is_some w.original.head ≡ true → w.original.head ≡ None → ⊥
 some_not_none w e n = true_is_not_false (sym e ∙ ap is_some n)
 
-ask_trailers : (c : CourseConfig) (w : Course) (x : Part) → Sound c w → is_some w.original.head ≡ true → is_headers x ≡ false → is_body x ≡ false → length (bytes_in x) ≡ 0
+ask_trailers : (c : CourseConfig) (w : Course) (x : AskedPart) → Sound c w → is_some w.original.head ≡ true → is_headers x ≡ false → is_body x ≡ false → length (bytes_in x) ≡ 0
     → list_any is_headers (out w) ≡ false → list_any is_trailers w.asks ≡ false → is_empty w.original.trailers ≡ false → Sound c (with_ask x w)
 ask_trailers c w x s r h b n o t m = record {
   counts = longer_counts (length w.answers) w.asks x s.counts;
@@ -254,7 +254,7 @@ ask_trailers c w x s r h b n o t m = record {
   first_made = λ g e f. and_false_right w.modes.headers (is_empty (w.asks ++ x ∷ [])) (not_empty w.asks x);
 }
 
-ask_body : (c : CourseConfig) (w : Course) (x : Part) → Sound c w → is_some w.original.head ≡ true → is_headers x ≡ false → is_trailers x ≡ false
+ask_body : (c : CourseConfig) (w : Course) (x : AskedPart) → Sound c w → is_some w.original.head ≡ true → is_headers x ≡ false → is_trailers x ≡ false
     → (is_buffered w.modes.body ≡ true → (w.original.whole ≡ true) × (bytes_in x ≡ w.original.body))
     → list_any is_headers (out w) ≡ false → Sound c (with_ask x w)
 ask_body c w x s r h t b o = record {
@@ -279,7 +279,7 @@ empty_is : {A : Type 0} (xs : List A) → is_empty xs ≡ true → xs ≡ []
 empty_is [] e = refl
 empty_is (x ∷ xs) e = absurd cc
 
-ask_headers : (c : CourseConfig) (w : Course) (x : Part) → Sound c w → w.released ≡ false → is_some w.original.head ≡ true → is_headers x ≡ true → is_body x ≡ false → is_trailers x ≡ false
+ask_headers : (c : CourseConfig) (w : Course) (x : AskedPart) → Sound c w → w.released ≡ false → is_some w.original.head ≡ true → is_headers x ≡ true → is_body x ≡ false → is_trailers x ≡ false
     → w.modes.headers ≡ true → w.asks ≡ [] → Sound c (with_ask x w)
 ask_headers c w x s q r h b t m n = record {
   counts = longer_counts (length w.answers) w.asks x s.counts;
@@ -298,10 +298,10 @@ ask_headers c w x s q r h b t m n = record {
 some_same : {A : Type 0} (x y : A) → Some x ≡ Some y → x ≡ y
 some_same x y e = ap (λ o. unwrap_or o x) e
 
-pick_by : (P : Part → Type 0) (head : Option (List Field)) (bodiless r first o s : Bool) (b t : Option Part) (x : Part)
+pick_by : (P : AskedPart → Type 0) (head : Option (List Field)) (bodiless r first o s : Bool) (b t : Option AskedPart) (x : AskedPart)
     → (r ≡ false → is_some head ≡ true → first ≡ true → (l : List Field) → P (Headers l bodiless))
-    → (is_some head ≡ true → o ≡ false → (p : Part) → b ≡ Some p → P p)
-    → (is_some head ≡ true → o ≡ false → (p : Part) → t ≡ Some p → P p)
+    → (is_some head ≡ true → o ≡ false → (p : AskedPart) → b ≡ Some p → P p)
+    → (is_some head ≡ true → o ≡ false → (p : AskedPart) → t ≡ Some p → P p)
     → next_at head bodiless r first o s b t ≡ Some x → P x
 pick_by P None bodiless r first o s b t x i j k e = absurd cc
 pick_by P (Some l) bodiless true first o s b t x i j k e = absurd cc
@@ -311,10 +311,10 @@ pick_by P (Some l) bodiless false false true false b t x i j k e = absurd cc
 pick_by P (Some l) bodiless false false false false (Some p) t x i j k e = subst P (some_same p x e) (j refl refl p refl)
 pick_by P (Some l) bodiless false false false false None t x i j k e = k refl refl x e
 
-abbrev BodyKind : Bool → BodyMode → List ℕ → Part → Type 0
+abbrev BodyKind : Bool → BodyMode → List ℕ → AskedPart → Type 0
 BodyKind whole m body x = (is_headers x ≡ false) × (is_trailers x ≡ false) × (is_buffered m ≡ true → (whole ≡ true) × (bytes_in x ≡ body))
 
-body_kind : (bare s off : Bool) (m : BodyMode) (ns : Option Part) (whole k lt last : Bool) (body first : List ℕ) (x : Part)
+body_kind : (bare s off : Bool) (m : BodyMode) (ns : Option AskedPart) (whole k lt last : Bool) (body first : List ℕ) (x : AskedPart)
     → (ns ≡ Some x → (is_headers x ≡ false) × (is_trailers x ≡ false))
     → body_at bare s (if off then NoAsk else m) ns (if whole && not k then Some (Body body last) else None)
     (if k then None else if lt then Some (Body first false) else if whole then Some (Body body last) else None) ≡ Some x
@@ -335,7 +335,7 @@ body_kind false false false Partial ns true false false last body first x f e =
     subst (BodyKind true Partial body) (some_same (Body body last) x e) (refl, refl, λ b. absurd (true_is_not_false (sym b)))
 body_kind false false false Partial ns false false false last body first x f e = absurd cc
 
-streamed_kind : (piece : ℕ) (o : Original) (asks : List Part) (rest : List ℕ) (x : Part) → next_streamed piece o asks rest ≡ Some x → (is_headers x ≡ false) × (is_trailers x ≡ false)
+streamed_kind : (piece : ℕ) (o : Original) (asks : List AskedPart) (rest : List ℕ) (x : AskedPart) → next_streamed piece o asks rest ≡ Some x → (is_headers x ≡ false) × (is_trailers x ≡ false)
 streamed_kind piece o asks [] x e = by (o.whole && is_empty o.trailers && lacks_last asks) e
   where
     by : (b : Bool) → (if b then Some (Body [] true) else None) ≡ Some x → (is_headers x ≡ false) × (is_trailers x ≡ false)
@@ -344,7 +344,7 @@ streamed_kind piece o asks [] x e = by (o.whole && is_empty o.trailers && lacks_
 streamed_kind piece o asks (b ∷ rest) x e =
     subst (λ p. (is_headers p ≡ false) × (is_trailers p ≡ false)) (some_same _ x e) (refl, refl)
 
-next_body_kind : (c : CourseConfig) (w : Course) (x : Part) → next_body c w ≡ Some x → BodyKind w.original.whole w.modes.body w.original.body x
+next_body_kind : (c : CourseConfig) (w : Course) (x : AskedPart) → next_body c w ≡ Some x → BodyKind w.original.whole w.modes.body w.original.body x
 unfolding next_body
 next_body_kind c w x e =
     body_kind (is_bodiless w.original.length) (is_stopped w) (w.released || replaces (answer_to is_headers w)) w.modes.body
@@ -352,7 +352,7 @@ next_body_kind c w x e =
     w.original.whole (list_any is_body w.asks) (nat_lt c.buffer_limit (length w.original.body)) (is_empty w.original.trailers) w.original.body
     (take c.buffer_limit w.original.body) x (streamed_kind c.piece w.original w.asks (drop (asked_bytes w.asks) w.original.body) x) e
 
-trailers_kind : (b : Bool) (f : List Field) (x : Part) → (if b then Some (Trailers f) else None) ≡ Some x
+trailers_kind : (b : Bool) (f : List Field) (x : AskedPart) → (if b then Some (Trailers f) else None) ≡ Some x
     → (b ≡ true) × (is_headers x ≡ false) × (is_body x ≡ false) × (length (bytes_in x) ≡ 0)
 trailers_kind true f x e =
     subst (λ p. (true ≡ true) × (is_headers p ≡ false) × (is_body p ≡ false) × (length (bytes_in p) ≡ 0)) (some_same (Trailers f) x e) (refl, refl, refl, refl)
@@ -362,7 +362,7 @@ and_true : (x y : Bool) → (x && y) ≡ true → (x ≡ true) × (y ≡ true)
 and_true true y e = (refl, e)
 and_true false y e = absurd cc
 
-pub ask_sound : (c : CourseConfig) (w : Course) (x : Part) → Sound c w → next c w ≡ Some x → Sound c (with_ask x w)
+pub ask_sound : (c : CourseConfig) (w : Course) (x : AskedPart) → Sound c w → next c w ≡ Some x → Sound c (with_ask x w)
 unfolding next
 ask_sound c w x s e =
     pick_by (λ p. Sound c (with_ask p w)) w.original.head (is_bodiless w.original.length) w.released (w.modes.headers && is_empty w.asks)
@@ -379,13 +379,13 @@ pub one_asked_sound : (c : CourseConfig) (d : Direction) (w : Course) → Sound 
 unfolding one_asked
 one_asked_sound c d w s = by (is_permitted c d w) (next c w) refl refl
   where
-    at : (l : List Part) → due c d w ≡ l → Sound c (record w { asks = w.asks ++ l }) → Sound c (record w { asks = w.asks ++ due c d w })
+    at : (l : List AskedPart) → due c d w ≡ l → Sound c (record w { asks = w.asks ++ l }) → Sound c (record w { asks = w.asks ++ due c d w })
     at l e x = subst (λ l. Sound c (record w { asks = w.asks ++ l })) (sym e) x
 
     none : Sound c (record w { asks = w.asks ++ [] })
     none = subst (λ l. Sound c (record w { asks = l })) (sym (append-nil w.asks)) s
 
-    by : (b : Bool) (n : Option Part) → b ≡ is_permitted c d w → n ≡ next c w → Sound c (one_asked c d w)
+    by : (b : Bool) (n : Option AskedPart) → b ≡ is_permitted c d w → n ≡ next c w → Sound c (one_asked c d w)
     by false n e f = at [] (ap (λ b. if b then option_to_list (next c w) else []) (sym e)) none
     by true None e f = at [] (ap (λ b. if b then option_to_list (next c w) else []) (sym e) ∙ ap option_to_list (sym f)) none
     by true (Some x) e f = at (x ∷ []) (ap (λ b. if b then option_to_list (next c w) else []) (sym e) ∙ ap option_to_list (sym f)) (ask_sound c w x s (sym f))

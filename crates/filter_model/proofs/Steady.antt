@@ -12,45 +12,45 @@ use Rattle.http_model.specs.Bytes.{is_empty}
 use Rattle.http_model.specs.declared.types.Direction.{Direction}
 use Rattle.http_model.specs.declared.types.Direction.TheVariants.{Request, Response}
 use Rattle.filter_model.specs.Config.{CourseConfig, FilterConfig}
-use Rattle.filter_model.specs.Course.{Course, Part, Headers, Body, Trailers, Outgoing, out, is_headers, is_trailers, committed}
-use Rattle.filter_model.specs.Account.{Account, course, gathered, settled, brought, is_released, is_finished}
-use Rattle.filter_model.specs.Cut.{Cut, PartAnswer, Kind, OfHeaders, OfBody, OfTrailers, kind_of, part_answer, part_cut, answer_cut}
+use Rattle.filter_model.specs.Course.{Course, AskedPart, Headers, Body, Trailers, Outgoing, out, is_headers, is_trailers, committed}
+use Rattle.filter_model.specs.Account.{ExchangeAccount, course, gathered, settled, brought, is_released, is_finished}
+use Rattle.filter_model.specs.Cut.{Cut, PartAnswer, AnswerKind, OfHeaders, OfBody, OfTrailers, kind_of, part_answer, part_cut, answer_cut}
 use Rattle.filter_model.specs.Answers.{answered, answered_by, part_answered, joined, override_of, overridden, behind_headers, asked_in}
 use Rattle.filter_model.specs.Step.{step, step_if, after_end, still_counts, under_cut, under_departure, no_cut, cut, is_departure, is_live, accepted, with_ending, on, effect}
-use Rattle.filter_model.specs.View.{Entry, Bytes, End, Lost, Answered, TooLong, Closed, NoStream, Tick, Starved, Sent, Given}
+use Rattle.filter_model.specs.View.{ViewEntry, Bytes, End, Lost, Answered, TooLong, Closed, NoStream, Tick, Starved, Sent, Given}
 use Rattle.filter_model.specs.declared.calls.Side.TheVariants.{Client, Upstream}
-use Rattle.filter_model.proofs.CourseGrows.{Sound, with_answer}
-use Rattle.filter_model.proofs.StepGrows.{Held, settled_goes, asked_in_goes, accepted_goes, gathered_goes, answers_one, no_part_cut, Answers, kind_of_headers, override_kind, first_none, or_left}
+use Rattle.filter_model.proofs.CourseGrows.{Sound, with_answer, or_first}
+use Rattle.filter_model.proofs.StepGrows.{Held, settled_goes, asked_in_goes, accepted_goes, gathered_goes, answers_one, no_part_cut, Answers, kind_of_headers, override_kind, first_none}
 use Rattle.filter_model.proofs.ReadAlong.{Fits, reads_on}
 use Rattle.filter_model.proofs.GivenRight.{Along}
 use Rattle.filter_model.proofs.Firm.{Firm, join_firm, asked_firm}
 
 -- Both courses are firm
 
-pub record Firms (a : Account) : Type 0 where
+pub record Firms (a : ExchangeAccount) : Type 0 where
   pub request : Firm a.request.course
   pub response : Firm a.response.course
 
-settled_firm : (c : FilterConfig) (a : Account) → Firms a → Firms (settled c a)
+settled_firm : (c : FilterConfig) (a : ExchangeAccount) → Firms a → Firms (settled c a)
 unfolding settled committed
 settled_firm c a f = record {
   request = record { first = f.request.first; stops = f.request.stops };
   response = record { first = f.response.first; stops = f.response.stops };
 }
 
-effect_firm : (c : FilterConfig) (k : Cut) (a : Account) → Firms a → Firms (effect c k a)
+effect_firm : (c : FilterConfig) (k : Cut) (a : ExchangeAccount) → Firms a → Firms (effect c k a)
 unfolding effect
 effect_firm c k a f = record {
   request = record { first = f.request.first; stops = f.request.stops };
   response = record { first = f.response.first; stops = f.response.stops };
 }
 
-asked_in_firm : (c : FilterConfig) (d : Direction) (a : Account) → Held c a → Firms a → Firms (asked_in c d a)
+asked_in_firm : (c : FilterConfig) (d : Direction) (a : ExchangeAccount) → Held c a → Firms a → Firms (asked_in c d a)
 unfolding asked_in
 asked_in_firm c Request a h f = record { request = asked_firm c.course Request a.request.course f.request h.request; response = f.response }
 asked_in_firm c Response a h f = record { request = f.request; response = asked_firm c.course Response a.response.course f.response h.response }
 
-gathered_firm : (e : Entry) (a : Account) → Firms a → Firms (gathered e a)
+gathered_firm : (e : ViewEntry) (a : ExchangeAccount) → Firms a → Firms (gathered e a)
 unfolding gathered brought
 gathered_firm (Bytes Client bytes) a f = record { request = record { first = f.request.first; stops = f.request.stops }; response = f.response }
 gathered_firm (Bytes Upstream bytes) a f = record { request = f.request; response = record { first = f.response.first; stops = f.response.stops } }
@@ -73,7 +73,7 @@ gathered_firm Sent a f = record {
 
 -- an answer to trailers doesn't replace
 
-abbrev is_of_trailers : Kind → Bool
+abbrev is_of_trailers : AnswerKind → Bool
 is_of_trailers OfHeaders = false
 is_of_trailers OfBody = false
 is_of_trailers OfTrailers = true
@@ -94,7 +94,7 @@ trailers_keep (member.ResponseBody x) p e = subst KeepsTrailers (same_part _ p e
 trailers_keep (member.RequestTrailers x) p e = subst KeepsTrailers (same_part _ p e) (λ i. refl)
 trailers_keep (member.ResponseTrailers x) p e = subst KeepsTrailers (same_part _ p e) (λ i. refl)
 
-kind_of_trailers : (kind : Kind) (q : Part) → kind_of kind q ≡ true → is_trailers q ≡ true → is_of_trailers kind ≡ true
+kind_of_trailers : (kind : AnswerKind) (q : AskedPart) → kind_of kind q ≡ true → is_trailers q ≡ true → is_of_trailers kind ≡ true
 kind_of_trailers OfTrailers q e f = refl
 kind_of_trailers OfHeaders (Headers x b) e f = absurd cc
 kind_of_trailers OfHeaders (Body x b) e f = absurd cc
@@ -114,8 +114,8 @@ fresh_firm w m f e = record { first = λ i n. absurd (clash (sym (ap is_empty e)
     clash : true ≡ false → ⊥
     clash e = cc
 
-override_firm : (c : FilterConfig) (p : PartAnswer) (a : Account) (d : Direction) (m : Option (PartModes × PartModes)) → Held c a → is_released a ≡ false → Firms a
-    → (q : Part) (more : List Part) → out (course d a) ≡ q ∷ more → (is_trailers q ≡ true → p.common.replace ≡ false) → (is_some m ≡ true → is_headers q ≡ true)
+override_firm : (c : FilterConfig) (p : PartAnswer) (a : ExchangeAccount) (d : Direction) (m : Option (PartModes × PartModes)) → Held c a → is_released a ≡ false → Firms a
+    → (q : AskedPart) (more : List AskedPart) → out (course d a) ≡ q ∷ more → (is_trailers q ≡ true → p.common.replace ≡ false) → (is_some m ≡ true → is_headers q ≡ true)
     → Firms (overridden d m (joined c (record p { direction = d }) a))
 override_firm c p a Request None h r f q more o t k = record { request = join_firm c.course a.request.course p.common q more f.request h.request o t; response = f.response }
 override_firm c p a Response None h r f q more o t k = record { request = f.request; response = join_firm c.course a.response.course p.common q more f.response h.response o t }
@@ -140,7 +140,7 @@ override_firm c p a Response (Some m) h r f q more o t k = record {
   response = modes_firm (with_answer p.common a.response.course) m.1 (join_firm c.course a.response.course p.common q more f.response h.response o t);
 }
 
-part_firm : (c : FilterConfig) (x : Answer) (a : Account) (p : Option PartAnswer) → p ≡ part_answer x.member → Held c a → is_released a ≡ false → Firms a
+part_firm : (c : FilterConfig) (x : Answer) (a : ExchangeAccount) (p : Option PartAnswer) → p ≡ part_answer x.member → Held c a → is_released a ≡ false → Firms a
     → x.timeout ≡ None → answer_cut c a (Some x) ≡ None → Firms (part_answered c x.modes a p)
 unfolding answer_cut Answers
 part_firm c x a None i h r f t e = f
@@ -151,38 +151,38 @@ part_firm c x a (Some p) i h r f t e =
     (λ g. trailers_keep x.member p (sym i) (kind_of_trailers p.kind l.0 l.3 g))
     (λ g. kind_of_headers p.kind l.0 (override_kind c p.kind x.modes g) l.3)
 
-by_firm : (c : FilterConfig) (x : Answer) (a : Account) (t : Option Span) → t ≡ x.timeout → Held c a → is_released a ≡ false → Firms a
+by_firm : (c : FilterConfig) (x : Answer) (a : ExchangeAccount) (t : Option Span) → t ≡ x.timeout → Held c a → is_released a ≡ false → Firms a
     → answer_cut c a (Some x) ≡ None → Firms (answered_by c x a t)
 by_firm c x a (Some t) i h r f e = record { request = f.request; response = f.response }
 by_firm c x a None i h r f e = part_firm c x a (part_answer x.member) refl h r f (sym i) e
 
-answered_firm : (c : FilterConfig) (e : Entry) (a : Account) → Held c a → Firms a → cut c e a ≡ None → (is_released a || is_finished c a) ≡ false → Firms (answered c e a)
+answered_firm : (c : FilterConfig) (e : ViewEntry) (a : ExchangeAccount) → Held c a → Firms a → cut c e a ≡ None → (is_released a || is_finished c a) ≡ false → Firms (answered c e a)
 unfolding answered
-answered_firm c (Answered (Some x)) a h f n b = by_firm c x a x.timeout refl h (or_left (is_released a) (is_finished c a) b) f (first_none c x a b n)
+answered_firm c (Answered (Some x)) a h f n b = by_firm c x a x.timeout refl h (or_first (is_released a) (is_finished c a) b) f (first_none c x a b n)
 answered_firm c (Answered None) a h f n b = f
 answered_firm c _ a h f n b = f
 
-accepted_firm : (c : FilterConfig) (e : Entry) (a : Account) → Held c a → Firms a → cut c e a ≡ None → (b : Bool) → b ≡ (is_released a || is_finished c a) → Firms (accepted c e a b)
+accepted_firm : (c : FilterConfig) (e : ViewEntry) (a : ExchangeAccount) → Held c a → Firms a → cut c e a ≡ None → (b : Bool) → b ≡ (is_released a || is_finished c a) → Firms (accepted c e a b)
 accepted_firm c e a h f n true i = f
 accepted_firm c e a h f n false i = answered_firm c e a h f n (sym i)
 
-under_cut_firm : (c : FilterConfig) (e : Entry) (a : Account) (k : Option Cut) → k ≡ cut c e a → Held c a → Firms a → Firms (under_cut c e a k)
+under_cut_firm : (c : FilterConfig) (e : ViewEntry) (a : ExchangeAccount) (k : Option Cut) → k ≡ cut c e a → Held c a → Firms a → Firms (under_cut c e a k)
 unfolding under_cut no_cut
 under_cut_firm c e a (Some k) i h f = settled_firm c (effect c k (settled c a)) (effect_firm c k (settled c a) (settled_firm c a f))
 under_cut_firm c e a None i h f =
     let b : Bool = is_released a || is_finished c a in
-    let x : Account = accepted c e a b in
+    let x : ExchangeAccount = accepted c e a b in
     let held_x : Held c x = (accepted_goes c e a h (sym i) b refl).held in
     let held_y : Held c (settled c x) = (settled_goes c x held_x).held in
     let held_z : Held c (asked_in c Request (settled c x)) = (asked_in_goes c Request (settled c x) held_y).held in
     asked_in_firm c Response (asked_in c Request (settled c x)) held_z
     (asked_in_firm c Request (settled c x) held_y (settled_firm c x (accepted_firm c e a h f (sym i) b refl)))
 
-departure_firm : (c : FilterConfig) (e : Entry) (a : Account) (b : Bool) → Held c a → Firms a → Firms (under_departure c e a b)
+departure_firm : (c : FilterConfig) (e : ViewEntry) (a : ExchangeAccount) (b : Bool) → Held c a → Firms a → Firms (under_departure c e a b)
 departure_firm c e a true h f = record { request = f.request; response = f.response }
 departure_firm c e a false h f = under_cut_firm c e a (cut c e a) refl h f
 
-if_firm : (c : FilterConfig) (e : Entry) (a : Account) (live : Bool) → Held c (gathered e a) → Firms a → Firms (step_if c e a live)
+if_firm : (c : FilterConfig) (e : ViewEntry) (a : ExchangeAccount) (live : Bool) → Held c (gathered e a) → Firms a → Firms (step_if c e a live)
 unfolding on with_ending
 if_firm c e a true h f =
     let x : Firms (under_departure c e (gathered e a) (is_departure e (gathered e a))) = departure_firm c e (gathered e a) (is_departure e (gathered e a)) h (gathered_firm e a f) in
@@ -193,6 +193,6 @@ if_firm c e a false h f = by (still_counts e)
     by true = gathered_firm e a f
     by false = f
 
-pub step_firm : (c : FilterConfig) (e : Entry) (a : Account) → Along c a → Fits c a e → Firms a → Firms (step c e a)
+pub step_firm : (c : FilterConfig) (e : ViewEntry) (a : ExchangeAccount) → Along c a → Fits c a e → Firms a → Firms (step c e a)
 unfolding step
 step_firm c e a l g f = if_firm c e a (is_live a.fate) (gathered_goes c e a l.held (reads_on c e a l.read l.held g)).held f

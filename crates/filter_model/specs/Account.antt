@@ -12,7 +12,7 @@ use Rattle.http_model.specs.declared.types.Direction.TheVariants.{Request, Respo
 use Rattle.filter_model.specs.Config.{FilterConfig}
 use Rattle.filter_model.specs.Course.{Course, Outgoing, Changed, out, changed, body_of, committed}
 use Rattle.filter_model.specs.Outgoing.{carried, is_all}
-use Rattle.filter_model.specs.View.{Entry, Bytes, End, Lost, Answered, TooLong, Closed, NoStream, Tick, Starved, Sent, Given}
+use Rattle.filter_model.specs.View.{ViewEntry, Bytes, End, Lost, Answered, TooLong, Closed, NoStream, Tick, Starved, Sent, Given}
 use Rattle.filter_model.specs.declared.calls.Side.{Side}
 use Rattle.filter_model.specs.declared.calls.Side.TheVariants.{Client, Upstream}
 
@@ -33,7 +33,7 @@ pub data Fate : Type 0 where
   Replied : List ℕ → Fate  -- by a reply of the proxy's own
   Aborted : Fate
 
-pub record Account : Type 0 where
+pub record ExchangeAccount : Type 0 where
   pub request : Flow
   pub response : Flow
   pub made : List Ask  -- of both directions, in the order in which they were made
@@ -67,7 +67,7 @@ fresh modes = record {
   extended = false;
 }
 
-abbrev pub start : FilterConfig → Account
+abbrev pub start : FilterConfig → ExchangeAccount
 start c = record {
   request = fresh c.request;
   response = fresh c.response;
@@ -82,11 +82,11 @@ start c = record {
 
 -- Directions
 
-abbrev pub flow : Direction → Account → Flow
+abbrev pub flow : Direction → ExchangeAccount → Flow
 flow Request a = a.request
 flow Response a = a.response
 
-abbrev pub course : Direction → Account → Course
+abbrev pub course : Direction → ExchangeAccount → Course
 course d a = (flow d a).course
 
 abbrev pub choose : {A : Type 0} → Direction → A → A → A
@@ -94,7 +94,7 @@ choose Request x y = x
 choose Response x y = y
 
 -- Every change writes the record outermost and chooses within its fields, so that the other fields compute.
-abbrev pub put : Direction → Flow → Account → Account
+abbrev pub put : Direction → Flow → ExchangeAccount → ExchangeAccount
 put d f a = record a { request = choose d f a.request; response = choose d a.response f }
 
 abbrev pub with_course : Course → Flow → Flow
@@ -112,19 +112,19 @@ abbrev pub is_head_request : Option (List Field) → Bool
 is_head_request None = false
 is_head_request (Some head) = bytes_eq (value_of (codes ":method") head) (codes "HEAD")
 
-abbrev pub is_to_head : Account → Bool
+abbrev pub is_to_head : ExchangeAccount → Bool
 is_to_head a = is_head_request a.request.course.original.head
 
-abbrev pub is_released : Account → Bool
+abbrev pub is_released : ExchangeAccount → Bool
 is_released a = a.request.course.released
 
-abbrev pub is_out_in : Account → Direction → Bool
+abbrev pub is_out_in : ExchangeAccount → Direction → Bool
 is_out_in a d = not (is_empty (out (course d a)))
 
 -- What an entry brings, whatever it leads to
 
 -- the original is what the reader makes of all bytes so far
-unfoldable pub brought : Direction → List ℕ → Bool → Account → Account
+unfoldable pub brought : Direction → List ℕ → Bool → ExchangeAccount → ExchangeAccount
 brought d bytes ended a =
     let f : Flow = flow d a in
     let all : List ℕ = f.brought ++ bytes in
@@ -140,7 +140,7 @@ direction_of (ask.ResponseBody bytes last) = Response
 direction_of (ask.ResponseTrailers fields) = Response
 
 -- the direction of the oldest ask that wasn't sent
-abbrev pub unsent : Account → Option Direction
+abbrev pub unsent : ExchangeAccount → Option Direction
 unsent a = option_map direction_of (slice_get a.made a.sent)
 
 abbrev pub is_in : Direction → Option Direction → Bool
@@ -152,14 +152,14 @@ abbrev pub sent_if : Bool → Flow → Flow
 sent_if counts f = record f { course = record f.course { sent = if counts then suc f.course.sent else f.course.sent } }
 
 -- the k-th `Sent` belongs to the k-th ask of both directions
-abbrev pub one_sent : Account → Account
+abbrev pub one_sent : ExchangeAccount → ExchangeAccount
 one_sent a = record a {
   request = sent_if (is_in Request (unsent a)) a.request;
   response = sent_if (is_in Response (unsent a)) a.response;
   sent = if is_some (unsent a) then suc a.sent else a.sent;
 }
 
-unfoldable pub gathered : Entry → Account → Account
+unfoldable pub gathered : ViewEntry → ExchangeAccount → ExchangeAccount
 gathered (Bytes s bytes) a = brought (from s) bytes false a
 gathered (End s) a = brought (from s) [] true a
 gathered (Lost s how) a = put (from s) (record (flow (from s) a) { lost = true }) a
@@ -175,7 +175,7 @@ gathered Starved a = a
 -- What was given
 
 -- before the response the client is given the interim response, where one is owed
-abbrev pub front : Direction → Account → List ℕ
+abbrev pub front : Direction → ExchangeAccount → List ℕ
 front Request a = []
 front Response a = interim a.request.course.original.expects
 
@@ -193,7 +193,7 @@ abbrev pub settled_flow : FilterConfig → Direction → List ℕ → Flow → F
 settled_flow c d front f = with_course (counted_course d front f.given (committed c.course d f.course)) f
 
 -- each direction chooses its head once it can go, and counts the body bytes given behind it
-unfoldable pub settled : FilterConfig → Account → Account
+unfoldable pub settled : FilterConfig → ExchangeAccount → ExchangeAccount
 settled c a = record a {
   request = settled_flow c Request (front Request a) a.request;
   response = settled_flow c Response (front Response a) a.response;
@@ -210,10 +210,10 @@ abbrev pub is_given_at : Direction → Option Outgoing → Changed → List ℕ 
 is_given_at d None m front given = false
 is_given_at d (Some head) m front given = is_all_given d head m front given
 
-unfoldable pub is_given : FilterConfig → Account → Direction → Bool
+unfoldable pub is_given : FilterConfig → ExchangeAccount → Direction → Bool
 is_given c a d = is_given_at d (course d a).head (changed c.course d (course d a)) (front d a) (flow d a).given
 
-unfoldable pub is_finished : FilterConfig → Account → Bool
+unfoldable pub is_finished : FilterConfig → ExchangeAccount → Bool
 is_finished c a = is_given c a Request && is_given c a Response
 
 -- An `unfolding` line that names this opens what an entry brings, so that examples compute.

@@ -11,10 +11,10 @@ use Rattle.ext_msgs.specs.declared.modes.PartModes.{PartModes}
 use Rattle.http_model.specs.declared.types.Direction.{Direction}
 use Rattle.http_model.specs.declared.types.Direction.TheVariants.{Request, Response}
 use Rattle.filter_model.specs.Config.{FilterConfig}
-use Rattle.filter_model.specs.Course.{Part, Headers, Body, Trailers, Course, asked}
-use Rattle.filter_model.specs.Account.{Account, Flow, flow, put, is_out_in}
-use Rattle.filter_model.specs.Cut.{PartAnswer, Kind, OfHeaders, OfBody, OfTrailers, part_answer}
-use Rattle.filter_model.specs.View.{Entry, Answered}
+use Rattle.filter_model.specs.Course.{AskedPart, Headers, Body, Trailers, Course, asked}
+use Rattle.filter_model.specs.Account.{ExchangeAccount, Flow, flow, put, is_out_in}
+use Rattle.filter_model.specs.Cut.{PartAnswer, AnswerKind, OfHeaders, OfBody, OfTrailers, part_answer}
+use Rattle.filter_model.specs.View.{ViewEntry, Answered}
 
 -- Timeout overrides
 
@@ -34,7 +34,7 @@ extended_if goes_here now ms f =
     record f { deadline = if counts then now + unwrap_or ms 0 else f.deadline; extended = counts || f.extended }
 
 -- to the request direction where an ask is out there, else to the response direction where one is
-abbrev pub extended_by : FilterConfig → Span → Account → Account
+abbrev pub extended_by : FilterConfig → Span → ExchangeAccount → ExchangeAccount
 extended_by c t a = record a {
   request = extended_if (is_out_in a Request) a.now (override_ms c t) a.request;
   response = extended_if (not (is_out_in a Request) && is_out_in a Response) a.now (override_ms c t) a.response;
@@ -73,13 +73,13 @@ abbrev pub both_modes : List ℤ → Option (PartModes × PartModes)
 both_modes (h ∷ h' ∷ b ∷ b' ∷ t ∷ t' ∷ []) = both (modes_of h b t) (modes_of h' b' t')
 both_modes _ = None
 
-abbrev pub is_of_headers : Kind → Bool
+abbrev pub is_of_headers : AnswerKind → Bool
 is_of_headers OfHeaders = true
 is_of_headers OfBody = false
 is_of_headers OfTrailers = false
 
 -- the modes that an override leaves, where it counts
-abbrev pub override_of : FilterConfig → Kind → Option ModeNumbers → Option (PartModes × PartModes)
+abbrev pub override_of : FilterConfig → AnswerKind → Option ModeNumbers → Option (PartModes × PartModes)
 override_of c kind None = None
 override_of c kind (Some n) = if c.allow_override && is_of_headers kind then both_modes n.numbers else None
 
@@ -100,7 +100,7 @@ response_modes _ None old = old
 abbrev pub with_modes : PartModes → Flow → Flow
 with_modes m f = record f { course = record f.course { modes = m } }
 
-abbrev pub overridden : Direction → Option (PartModes × PartModes) → Account → Account
+abbrev pub overridden : Direction → Option (PartModes × PartModes) → ExchangeAccount → ExchangeAccount
 overridden d m a = record a {
   request = with_modes (request_modes d m a.request.course.modes) a.request;
   response = with_modes (response_modes d m a.response.course.modes) a.response;
@@ -109,7 +109,7 @@ overridden d m a = record a {
 -- Answers
 
 -- an answer joins its direction's answers, and starts the timer anew for the asks that it leaves out
-abbrev pub joined : FilterConfig → PartAnswer → Account → Account
+abbrev pub joined : FilterConfig → PartAnswer → ExchangeAccount → ExchangeAccount
 joined c x a =
     let f : Flow = flow x.direction a in
     put x.direction (record f {
@@ -119,22 +119,22 @@ joined c x a =
     }) a
 
 -- with the modes that come with it
-abbrev pub part_answered : FilterConfig → Option ModeNumbers → Account → Option PartAnswer → Account
+abbrev pub part_answered : FilterConfig → Option ModeNumbers → ExchangeAccount → Option PartAnswer → ExchangeAccount
 part_answered c modes a None = a
 part_answered c modes a (Some p) = overridden p.direction (override_of c p.kind modes) (joined c p a)
 
 -- with a timeout override its other fields are ignored
-abbrev pub answered_by : FilterConfig → Answer → Account → Option Span → Account
+abbrev pub answered_by : FilterConfig → Answer → ExchangeAccount → Option Span → ExchangeAccount
 answered_by c x a (Some t) = extended_by c t a
 answered_by c x a None = part_answered c x.modes a (part_answer x.member)
 
-unfoldable pub answered : FilterConfig → Entry → Account → Account
+unfoldable pub answered : FilterConfig → ViewEntry → ExchangeAccount → ExchangeAccount
 answered c (Answered (Some x)) a = answered_by c x a x.timeout
 answered c _ a = a
 
 -- Asks
 
-abbrev pub ask_of : Direction → Part → Ask
+abbrev pub ask_of : Direction → AskedPart → Ask
 ask_of Request (Headers fields last) = ask.RequestHeaders fields last
 ask_of Request (Body bytes last) = ask.RequestBody bytes last
 ask_of Request (Trailers fields) = ask.RequestTrailers fields
@@ -143,7 +143,7 @@ ask_of Response (Body bytes last) = ask.ResponseBody bytes last
 ask_of Response (Trailers fields) = ask.ResponseTrailers fields
 
 -- the asks that are due and permitted are made; where none was out, the first starts the timer
-unfoldable pub asked_in : FilterConfig → Direction → Account → Account
+unfoldable pub asked_in : FilterConfig → Direction → ExchangeAccount → ExchangeAccount
 asked_in c d a =
     let f : Flow = flow d a in
     let w : Course = asked c.course d f.course in

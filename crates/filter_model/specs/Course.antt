@@ -24,10 +24,10 @@ use Rattle.http_model.specs.declared.types.Framing.TheVariants.{NoField, Length 
 use Rattle.filter_model.specs.Config.{CourseConfig}
 
 -- a part of a message as it is asked; the flag is end_of_stream
-pub data Part : Type 0 where
-  Headers : List Field → Bool → Part
-  Body : List ℕ → Bool → Part
-  Trailers : List Field → Part
+pub data AskedPart : Type 0 where
+  Headers : List Field → Bool → AskedPart
+  Body : List ℕ → Bool → AskedPart
+  Trailers : List Field → AskedPart
 
 -- a head as it goes out
 pub record Outgoing : Type 0 where
@@ -37,7 +37,7 @@ pub record Outgoing : Type 0 where
 pub record Course : Type 0 where
   pub original : Original
   pub modes : PartModes  -- as configured and overridden
-  pub asks : List Part  -- oldest first
+  pub asks : List AskedPart  -- oldest first
   pub answers : List Common  -- the k-th belongs to the k-th ask
   pub sent : ℕ  -- how many of the asks were sent
   pub given : ℕ  -- how many body bytes were given to the other side
@@ -46,42 +46,42 @@ pub record Course : Type 0 where
 
 -- Asks and answers in pairs
 
-abbrev pub is_headers : Part → Bool
+abbrev pub is_headers : AskedPart → Bool
 is_headers (Headers fields last) = true
 is_headers _ = false
 
-abbrev pub is_body : Part → Bool
+abbrev pub is_body : AskedPart → Bool
 is_body (Body bytes last) = true
 is_body _ = false
 
-abbrev pub is_trailers : Part → Bool
+abbrev pub is_trailers : AskedPart → Bool
 is_trailers (Trailers fields) = true
 is_trailers _ = false
 
-abbrev pub bytes_in : Part → List ℕ
+abbrev pub bytes_in : AskedPart → List ℕ
 bytes_in (Body bytes last) = bytes
 bytes_in _ = []
 
-abbrev pub is_last_piece : Part → Bool
+abbrev pub is_last_piece : AskedPart → Bool
 is_last_piece (Body bytes last) = last
 is_last_piece _ = false
 
-abbrev pub pairs : Course → List (Part × Common)
+abbrev pub pairs : Course → List (AskedPart × Common)
 pairs w = zip w.asks w.answers
 
 -- the asks that are out
-abbrev pub out : Course → List Part
+abbrev pub out : Course → List AskedPart
 out w = drop (length w.answers) w.asks
 
-abbrev pub asked_bytes : List Part → ℕ
+abbrev pub asked_bytes : List AskedPart → ℕ
 asked_bytes asks = sum_by (λ p. length (bytes_in p)) asks
 
-abbrev pub answered_bytes : List (Part × Common) → ℕ
-answered_bytes pairs = sum_by (λ (q : Part × Common). length (bytes_in q.0)) pairs
+abbrev pub answered_bytes : List (AskedPart × Common) → ℕ
+answered_bytes pairs = sum_by (λ (q : AskedPart × Common). length (bytes_in q.0)) pairs
 
 -- the answer to the first ask of this kind
-abbrev pub answer_to : (Part → Bool) → Course → Option Common
-answer_to kind w = option_map (λ (q : Part × Common). q.1) (find (λ (q : Part × Common). kind q.0) (pairs w))
+abbrev pub answer_to : (AskedPart → Bool) → Course → Option Common
+answer_to kind w = option_map (λ (q : AskedPart × Common). q.1) (find (λ (q : AskedPart × Common). kind q.0) (pairs w))
 
 -- a CONTINUE_AND_REPLACE came
 abbrev pub is_stopped : Course → Bool
@@ -118,57 +118,57 @@ is_settled w = is_some w.original.head && (w.released || not w.modes.headers || 
 -- Which ask is due
 
 -- the last byte was asked before the end was known
-abbrev pub lacks_last : List Part → Bool
+abbrev pub lacks_last : List AskedPart → Bool
 lacks_last asks = list_any is_body asks && not (list_any is_last_piece asks)
 
 -- STREAMED, of the bytes that no ask has yet: a piece of what is at hand, and an empty last one where the last is owed
-abbrev pub next_streamed : ℕ → Original → List Part → List ℕ → Option Part
+abbrev pub next_streamed : ℕ → Original → List AskedPart → List ℕ → Option AskedPart
 next_streamed piece o asks [] = if o.whole && is_empty o.trailers && lacks_last asks then Some (Body [] true) else None
 next_streamed piece o asks (b ∷ rest) =
     Some (Body (take piece (b ∷ rest)) (o.whole && is_empty o.trailers && nat_le (length (b ∷ rest)) piece))
 
 -- BUFFERED: all of the body at once
-abbrev pub next_buffered : Original → Bool → Option Part
+abbrev pub next_buffered : Original → Bool → Option AskedPart
 next_buffered o asked = if o.whole && not asked then Some (Body o.body (is_empty o.trailers)) else None
 
 -- BUFFERED_PARTIAL: all of the body at once, or the first bytes of a longer one
-abbrev pub next_partial : ℕ → Original → Bool → Option Part
+abbrev pub next_partial : ℕ → Original → Bool → Option AskedPart
 next_partial limit o asked =
     if asked then None
     else if nat_lt limit (length o.body) then Some (Body (take limit o.body) false)
     else if o.whole then Some (Body o.body (is_empty o.trailers))
     else None
 
-abbrev pub body_by_mode : BodyMode → Option Part → Option Part → Option Part → Option Part
+abbrev pub body_by_mode : BodyMode → Option AskedPart → Option AskedPart → Option AskedPart → Option AskedPart
 body_by_mode NoAsk streamed buffered partial = None
 body_by_mode Streamed streamed buffered partial = streamed
 body_by_mode Buffered streamed buffered partial = buffered
 body_by_mode Partial streamed buffered partial = partial
 
-abbrev pub body_at : Bool → Bool → BodyMode → Option Part → Option Part → Option Part → Option Part
+abbrev pub body_at : Bool → Bool → BodyMode → Option AskedPart → Option AskedPart → Option AskedPart → Option AskedPart
 body_at bodiless stopped m streamed buffered partial =
     if bodiless || stopped then None else body_by_mode m streamed buffered partial
 
-unfoldable pub next_body : CourseConfig → Course → Option Part
+unfoldable pub next_body : CourseConfig → Course → Option AskedPart
 next_body c w =
     body_at (is_bodiless w.original.length) (is_stopped w) (mode w)
     (next_streamed c.piece w.original w.asks (drop (asked_bytes w.asks) w.original.body))
     (next_buffered w.original (list_any is_body w.asks))
     (next_partial c.buffer_limit w.original (list_any is_body w.asks))
 
-abbrev pub next_trailers : Course → Option Part
+abbrev pub next_trailers : Course → Option AskedPart
 next_trailers w =
     if w.modes.trailers && not w.released && not (is_stopped w) && w.original.whole && not (is_empty w.original.trailers)
     && not (list_any is_trailers w.asks)
     then Some (Trailers w.original.trailers) else None
 
-abbrev pub or_else : Option Part → Option Part → Option Part
+abbrev pub or_else : Option AskedPart → Option AskedPart → Option AskedPart
 or_else (Some p) other = Some p
 or_else None other = other
 
 -- headers, body, trailers; nothing before the head is read, and nothing more once the rest passes, behind a
 -- CONTINUE_AND_REPLACE, or while the headers ask is out
-abbrev pub next_at : Option (List Field) → Bool → Bool → Bool → Bool → Bool → Option Part → Option Part → Option Part
+abbrev pub next_at : Option (List Field) → Bool → Bool → Bool → Bool → Bool → Option AskedPart → Option AskedPart → Option AskedPart
 next_at None bodiless done first headers_out stopped body trailers = None
 next_at (Some head) bodiless done first headers_out stopped body trailers =
     if done || stopped then None
@@ -177,7 +177,7 @@ next_at (Some head) bodiless done first headers_out stopped body trailers =
     else or_else body trailers
 
 -- the ask that is due after those already made
-unfoldable pub next : CourseConfig → Course → Option Part
+unfoldable pub next : CourseConfig → Course → Option AskedPart
 next c w =
     next_at w.original.head (is_bodiless w.original.length) w.released (w.modes.headers && is_empty w.asks)
     (list_any is_headers (out w)) (is_stopped w) (next_body c w) (next_trailers w)
@@ -217,7 +217,7 @@ replacement_at bare headers_answer = if bare then None else replacement_by heade
 abbrev pub replacement : Direction → Course → Option (List ℕ)
 replacement d w = replacement_at (is_bare d w.original.length) (answer_to is_headers w)
 
-abbrev pub answered_piece : Part × Common → Option (List ℕ)
+abbrev pub answered_piece : AskedPart × Common → Option (List ℕ)
 answered_piece q = if is_body q.0 then Some (unwrap_or (new_piece q.1.body) (bytes_in q.0)) else None
 
 -- the answered pieces, each as its answer changes it
@@ -258,7 +258,7 @@ passing_at released body_out stopped m asked = released || (not body_out && (sto
 abbrev pub is_passing : Course → Bool
 is_passing w = passing_at w.released (list_any is_body (out w)) (is_stopped w) (mode w) (list_any is_body w.asks)
 
-abbrev pub body_done_at : Bool → Bool → Bool → Option Part → Bool
+abbrev pub body_done_at : Bool → Bool → Bool → Option AskedPart → Bool
 body_done_at whole released body_out body = whole && (released || (not body_out && is_none body))
 
 -- the original is whole, and no piece of it is asked or still to be asked
@@ -365,7 +365,7 @@ unfoldable pub is_permitted : CourseConfig → Direction → Course → Bool
 is_permitted c d w = nat_lt (length w.asks - min (length w.answers) w.sent) ask_limit && nat_le (queue c d w) c.mark
 
 -- the ask that is due, where it is permitted
-abbrev pub due : CourseConfig → Direction → Course → List Part
+abbrev pub due : CourseConfig → Direction → Course → List AskedPart
 due c d w = if is_permitted c d w then option_to_list (next c w) else []
 
 unfoldable pub one_asked : CourseConfig → Direction → Course → Course
@@ -382,20 +382,20 @@ is_streamed_back (StreamedBack bytes last) = true
 is_streamed_back _ = false
 
 -- the oldest ask out isn't of this part, or there is none, or it answers in a form for another mode
-abbrev pub is_spurious_at : (Part → Bool) → Bool → List Part → Bool
+abbrev pub is_spurious_at : (AskedPart → Bool) → Bool → List AskedPart → Bool
 is_spurious_at kind streamed_back [] = true
 is_spurious_at kind streamed_back (p ∷ more) = not (kind p) || streamed_back
 
-abbrev pub is_spurious : (Part → Bool) → Common → Course → Bool
+abbrev pub is_spurious : (AskedPart → Bool) → Common → Course → Bool
 is_spurious kind a w = is_spurious_at kind (is_streamed_back a.body) (out w)
 
 -- the mutation is judged on what its part has become; that of a body answer in every mode, though only BUFFERED applies it
-abbrev pub outcome_at : CourseConfig → Direction → Course → HeaderMutation → Part → Outcome
+abbrev pub outcome_at : CourseConfig → Direction → Course → HeaderMutation → AskedPart → Outcome
 outcome_at c d w m (Headers head last) = mutated c.rules (head_kind d) head m
 outcome_at c d w m (Body bytes last) = mutated c.rules (head_kind d) (head_after_headers c d w (unwrap_or w.original.head [])) m
 outcome_at c d w m (Trailers fields) = mutated c.rules TrailerPart fields m
 
-abbrev pub outcome_of : CourseConfig → Direction → Course → HeaderMutation → List Part → Outcome
+abbrev pub outcome_of : CourseConfig → Direction → Course → HeaderMutation → List AskedPart → Outcome
 outcome_of c d w m [] = Fields []
 outcome_of c d w m (p ∷ more) = outcome_at c d w m p
 

@@ -13,9 +13,9 @@ use Rattle.http_model.specs.Reading.{status_of}
 use Rattle.http_model.specs.declared.types.Direction.{Direction}
 use Rattle.http_model.specs.declared.types.Direction.TheVariants.{Request, Response}
 use Rattle.filter_model.specs.Config.{FilterConfig}
-use Rattle.filter_model.specs.Course.{Part, is_headers, is_body, is_trailers, is_spurious, outcome, is_over, head_kind}
-use Rattle.filter_model.specs.Account.{Account, course, flow, from, to, is_out_in, is_given}
-use Rattle.filter_model.specs.View.{Entry, Bytes, End, Lost, Answered, TooLong, Closed, NoStream, Tick, Starved}
+use Rattle.filter_model.specs.Course.{AskedPart, is_headers, is_body, is_trailers, is_spurious, outcome, is_over, head_kind}
+use Rattle.filter_model.specs.Account.{ExchangeAccount, course, flow, from, to, is_out_in, is_given}
+use Rattle.filter_model.specs.View.{ViewEntry, Bytes, End, Lost, Answered, TooLong, Closed, NoStream, Tick, Starved}
 use Rattle.filter_model.specs.declared.calls.Side.{Side}
 use Rattle.filter_model.specs.declared.calls.Side.TheVariants.{Client, Upstream}
 use Rattle.filter_model.specs.declared.calls.Loss.{Loss}
@@ -37,12 +37,12 @@ pub data Cut : Type 0 where
 
 -- Answers to a part
 
-pub data Kind : Type 0 where
-  OfHeaders : Kind
-  OfBody : Kind
-  OfTrailers : Kind
+pub data AnswerKind : Type 0 where
+  OfHeaders : AnswerKind
+  OfBody : AnswerKind
+  OfTrailers : AnswerKind
 
-abbrev pub kind_of : Kind → Part → Bool
+abbrev pub kind_of : AnswerKind → AskedPart → Bool
 kind_of OfHeaders = is_headers
 kind_of OfBody = is_body
 kind_of OfTrailers = is_trailers
@@ -50,7 +50,7 @@ kind_of OfTrailers = is_trailers
 -- direction, part and value of an answer
 pub record PartAnswer : Type 0 where
   pub direction : Direction
-  pub kind : Kind
+  pub kind : AnswerKind
   pub common : Common
 
 abbrev pub of_trailers : HeaderMutation → Common
@@ -72,7 +72,7 @@ cut_by (Bad place) = Some Malformed
 cut_by (Disallowed place) = Some Refused
 
 -- spurious goes before malformed
-abbrev pub part_cut : FilterConfig → Account → PartAnswer → Option Cut
+abbrev pub part_cut : FilterConfig → ExchangeAccount → PartAnswer → Option Cut
 part_cut c a x =
     if is_spurious (kind_of x.kind) x.common (course x.direction a) then Some Spurious
     else cut_by (outcome c.course x.direction (course x.direction a) x.common.headers)
@@ -83,34 +83,34 @@ immediate_cut c i =
     else if is_some (first_bad (items (head_kind Response) i.headers)) then Malformed
     else Immediately i
 
-abbrev pub part_cut_of : FilterConfig → Account → Option PartAnswer → Option Cut
+abbrev pub part_cut_of : FilterConfig → ExchangeAccount → Option PartAnswer → Option Cut
 part_cut_of c a None = None
 part_cut_of c a (Some p) = part_cut c a p
 
-abbrev pub member_cut : FilterConfig → Account → Member → Option Cut
+abbrev pub member_cut : FilterConfig → ExchangeAccount → Member → Option Cut
 member_cut c a (member.Immediate i) = Some (immediate_cut c i)
 member_cut c a member.Unset = Some Malformed
 member_cut c a m = part_cut_of c a (part_answer m)
 
 -- an answer with a timeout override is never a cut
-abbrev pub answer_cut_at : FilterConfig → Account → Option Span → Member → Option Cut
+abbrev pub answer_cut_at : FilterConfig → ExchangeAccount → Option Span → Member → Option Cut
 answer_cut_at c a (Some t) m = None
 answer_cut_at c a None m = member_cut c a m
 
-unfoldable pub answer_cut : FilterConfig → Account → Option Answer → Option Cut
+unfoldable pub answer_cut : FilterConfig → ExchangeAccount → Option Answer → Option Cut
 answer_cut c a None = Some Malformed
 answer_cut c a (Some x) = answer_cut_at c a x.timeout x.member
 
 -- Timers and closings
 
-abbrev pub is_late : Account → Direction → Bool
+abbrev pub is_late : ExchangeAccount → Direction → Bool
 is_late a d = is_out_in a d && nat_le (flow d a).deadline a.now
 
-abbrev pub late_cut : Account → Option Cut
+abbrev pub late_cut : ExchangeAccount → Option Cut
 late_cut a = if is_late a Request || is_late a Response then Some Late else None
 
 -- entries of the processor's stream, and of time
-unfoldable pub processor_cut : FilterConfig → Account → Entry → Option Cut
+unfoldable pub processor_cut : FilterConfig → ExchangeAccount → ViewEntry → Option Cut
 processor_cut c a (Answered x) = answer_cut c a x
 processor_cut c a TooLong = Some LongAnswer
 processor_cut c a (Closed true) = Some Clean
@@ -119,7 +119,7 @@ processor_cut c a NoStream = Some Unopened
 processor_cut c a (Tick n) = late_cut a
 processor_cut c a _ = None
 
-unfoldable pub over_cut : FilterConfig → Account → Option Cut
+unfoldable pub over_cut : FilterConfig → ExchangeAccount → Option Cut
 over_cut c a =
     if is_over c.course a.request.course then Some (Over Request)
     else if is_over c.course a.response.course then Some (Over Response)
@@ -128,12 +128,12 @@ over_cut c a =
 -- Sides
 
 -- every fault of the upstream is a bad gateway: RFC 9110 section 15.6.3
-abbrev pub fault_cut : Account → Direction → Option Cut
+abbrev pub fault_cut : ExchangeAccount → Direction → Option Cut
 fault_cut a Request = option_map (λ f. Peer (status_of f)) a.request.course.original.fault
 fault_cut a Response = option_map (λ f. Peer 502) a.response.course.original.fault
 
 -- the side's own message is whole, and it was given the other one
-abbrev pub is_whole_and_done : FilterConfig → Account → Side → Bool
+abbrev pub is_whole_and_done : FilterConfig → ExchangeAccount → Side → Bool
 is_whole_and_done c a s = (course (from s) a).original.whole && is_given c a (to s)
 
 abbrev pub loss_cut : Side → Loss → Cut
@@ -142,7 +142,7 @@ loss_cut Upstream NoDial = Peer 503
 loss_cut Upstream Broken = Peer 502
 
 -- entries of the two sides, and want of memory
-unfoldable pub peer_cut : FilterConfig → Account → Entry → Option Cut
+unfoldable pub peer_cut : FilterConfig → ExchangeAccount → ViewEntry → Option Cut
 peer_cut c a (Bytes s bytes) = fault_cut a (from s)
 peer_cut c a (End s) = fault_cut a (from s)
 peer_cut c a (Lost s how) = if is_whole_and_done c a s then None else Some (loss_cut s how)

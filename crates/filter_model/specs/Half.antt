@@ -15,7 +15,7 @@ use Rattle.http_model.specs.declared.types.Out.TheVariants as part
 use Rattle.filter_model.specs.Config.{CourseConfig}
 use Rattle.filter_model.specs.Course.{Course, Changed, asked, committed, changed, body_of, is_spurious, outcome}
 use Rattle.filter_model.specs.Account.{fresh_course}
-use Rattle.filter_model.specs.Cut.{Kind, OfHeaders, OfBody, OfTrailers, kind_of}
+use Rattle.filter_model.specs.Cut.{AnswerKind, OfHeaders, OfBody, OfTrailers, kind_of}
 use Rattle.filter_model.specs.Answers.{behind_headers, ask_of}
 
 -- Calls
@@ -161,7 +161,7 @@ next_handed p = option_map (ask_of p.direction) (slice_get (course p).asks (prog
 -- Why an answer is refused, where it is
 
 -- the number of a part in an answer: 0 headers, 1 body, 2 trailers
-abbrev pub kind_numbered : ℕ → Kind
+abbrev pub kind_numbered : ℕ → AnswerKind
 kind_numbered n = if n == 0 then OfHeaders else (if n == 1 then OfBody else OfTrailers)
 
 abbrev pub fault_of : Outcome → Option HalfFault
@@ -169,7 +169,7 @@ fault_of (Fields fields) = None
 fault_of (Bad place) = Some (Malformed place)
 fault_of (Refused place) = Some (Disallowed place)
 
-abbrev pub refusal : CourseConfig → Direction → Course → Kind → Common → Option HalfFault
+abbrev pub refusal : CourseConfig → Direction → Course → AnswerKind → Common → Option HalfFault
 refusal c d w kind a = if is_spurious (kind_of kind) a w then Some Spurious else fault_of (outcome c d w a.headers)
 
 -- An `unfolding` line that names this opens the course of calls, so that examples compute.

@@ -9,9 +9,9 @@ use Rattle.http_model.specs.declared.types.Direction.TheVariants.{Request, Respo
 use Rattle.filter_model.specs.Config.{FilterConfig}
 use Rattle.filter_model.specs.Course.{changed}
 use Rattle.filter_model.specs.Outgoing.{IsWire}
-use Rattle.filter_model.specs.Account.{Account, Fate, Live, Left, Replied, Aborted, course, flow, front, to, is_given, is_released}
+use Rattle.filter_model.specs.Account.{ExchangeAccount, Fate, Live, Left, Replied, Aborted, course, flow, front, to, is_given, is_released}
 use Rattle.filter_model.specs.Step.{after, room}
-use Rattle.filter_model.specs.View.{Entry, Bytes, End, Lost, Answered, TooLong, Closed, NoStream, Tick, Starved, Sent, Given}
+use Rattle.filter_model.specs.View.{ViewEntry, Bytes, End, Lost, Answered, TooLong, Closed, NoStream, Tick, Starved, Sent, Given}
 use Rattle.filter_model.specs.declared.calls.Side.{Side}
 use Rattle.filter_model.specs.declared.calls.Side.TheVariants.{Client, Upstream}
 use Rattle.filter_model.specs.declared.calls.Event.{Event}
@@ -24,21 +24,21 @@ use Rattle.filter_model.specs.declared.calls.Next.TheVariants as next
 -- The history of an exchange by itself: its calls with their answers, newest first
 
 pub data Call : Type 0 where
-  Stepped : Entry → Call  -- with the bytes that were taken
+  Stepped : ViewEntry → Call  -- with the bytes that were taken
   Took : Side → Taken → Call
   Nexted : Next → Call
   Failed : Call  -- one that answered want of memory; `Starved` follows
 
-abbrev pub entry_of : Call → Option Entry
+abbrev pub entry_of : Call → Option ViewEntry
 entry_of (Stepped e) = Some e
 entry_of (Took s (Piece bytes)) = Some (Given s bytes)
 entry_of _ = None
 
-abbrev pub view_of : List Call → List Entry
+abbrev pub view_of : List Call → List ViewEntry
 view_of h = filter_map entry_of h
 
 -- the account after these calls
-abbrev pub account : FilterConfig → List Call → Account
+abbrev pub account : FilterConfig → List Call → ExchangeAccount
 account c h = after c (view_of h)
 
 -- the asks given by `next`, newest first
@@ -55,24 +55,24 @@ end_given _ = None
 -- Right
 
 -- the bytes are a wire of what the message has become
-abbrev pub IsWireOf : FilterConfig → Account → Direction → List ℕ → Type 0
+abbrev pub IsWireOf : FilterConfig → ExchangeAccount → Direction → List ℕ → Type 0
 IsWireOf c a d bytes = IsWire d (changed c.course d (course d a)) bytes
 
 -- to the client goes one reply, or the response; an interim response goes before either
-abbrev pub IsForClientAt : FilterConfig → Account → Fate → List ℕ → Type 0
+abbrev pub IsForClientAt : FilterConfig → ExchangeAccount → Fate → List ℕ → Type 0
 IsForClientAt c a (Replied reply) bytes = bytes ≡ front Response a ++ reply
 IsForClientAt c a _ bytes = (wire : List ℕ) × IsWireOf c a Response wire × (bytes ≡ front Response a ++ wire)
 
 -- all that may go to a side by now
-abbrev pub IsFor : FilterConfig → Account → Side → List ℕ → Type 0
+abbrev pub IsFor : FilterConfig → ExchangeAccount → Side → List ℕ → Type 0
 IsFor c a Client bytes = IsForClientAt c a a.fate bytes
 IsFor c a Upstream bytes = IsWireOf c a Request bytes
 
-abbrev pub given_to : Side → Account → List ℕ
+abbrev pub given_to : Side → ExchangeAccount → List ℕ
 given_to s a = (flow (to s) a).given
 
 -- what was given to a side is the first of what may go to it
-abbrev pub GivenRight : FilterConfig → Account → Side → Type 0
+abbrev pub GivenRight : FilterConfig → ExchangeAccount → Side → Type 0
 GivenRight c a s = (all : List ℕ) × IsFor c a s all × IsPrefix (given_to s a) all
 
 -- at most one end was given, and it is the one that is due
@@ -90,17 +90,17 @@ pub record Right (c : FilterConfig) (h : List Call) : Type 0 where
 
 -- the side's part is whole and given, or the client left
 
-abbrev pub is_reply_given : FilterConfig → Account → List ℕ → Side → Bool
+abbrev pub is_reply_given : FilterConfig → ExchangeAccount → List ℕ → Side → Bool
 is_reply_given c a reply Client = bytes_eq (given_to Client a) (front Response a ++ reply)
 is_reply_given c a reply Upstream = is_given c a Request
 
-abbrev pub is_done_at : FilterConfig → Account → Side → Fate → Bool
+abbrev pub is_done_at : FilterConfig → ExchangeAccount → Side → Fate → Bool
 is_done_at c a s Left = true
 is_done_at c a s (Replied reply) = is_reply_given c a reply s
 is_done_at c a s Live = is_given c a (to s)
 is_done_at c a s Aborted = is_given c a (to s)
 
-abbrev pub is_done : FilterConfig → Account → Side → Bool
+abbrev pub is_done : FilterConfig → ExchangeAccount → Side → Bool
 is_done c a s = is_done_at c a s a.fate
 
 -- a reply aborts the link of the upstream, and an abort both
@@ -112,10 +112,10 @@ is_aborted_at Upstream (Replied reply) = true
 is_aborted_at s Live = false
 is_aborted_at s Left = false
 
-abbrev pub is_aborted : Account → Side → Bool
+abbrev pub is_aborted : ExchangeAccount → Side → Bool
 is_aborted a s = is_aborted_at s a.fate
 
-abbrev pub MayTake : FilterConfig → Account → Side → Taken → Type 0
+abbrev pub MayTake : FilterConfig → ExchangeAccount → Side → Taken → Type 0
 MayTake c a s (Piece bytes) =
     (is_done c a s ≡ false) × (is_aborted a s ≡ false) × (0 < length bytes)
     × (all : List ℕ) × IsFor c a s all × IsPrefix (given_to s a ++ bytes) all
@@ -146,7 +146,7 @@ due None None = next.Nothing
 -- What a call of `step` comes to, and when it may come
 
 -- with n bytes taken, and what the reader of messages makes of the bytes of an answer
-abbrev pub entry : Option Answer → Event → ℕ → Entry
+abbrev pub entry : Option Answer → Event → ℕ → ViewEntry
 entry x (event.Bytes s bytes) n = Bytes s (take n bytes)
 entry x (event.End s) n = End s
 entry x (event.Lost s how) n = Lost s how
@@ -159,7 +159,7 @@ entry x event.Starved n = Starved
 entry x event.Sent n = Sent
 
 -- how many of its bytes are taken
-abbrev pub taken_of : FilterConfig → Account → Event → ℕ
+abbrev pub taken_of : FilterConfig → ExchangeAccount → Event → ℕ
 taken_of c a (event.Bytes s bytes) = min (length bytes) (room c a s)
 taken_of c a _ = 0
 
@@ -214,14 +214,14 @@ is_quiet h =
     list_any is_take_of_client last && list_any is_take_of_upstream last && list_any is_next last
 
 -- both messages were given whole
-pub record GivenWhole (c : FilterConfig) (a : Account) : Type 0 where
+pub record GivenWhole (c : FilterConfig) (a : ExchangeAccount) : Type 0 where
   pub upstream : IsFor c a Upstream (given_to Upstream a)
   pub client : IsFor c a Client (given_to Client a)
   pub request : (changed c.course Request a.request.course).ended ≡ true
   pub response : (changed c.course Response a.response.course).ended ≡ true
 
 -- both messages have arrived whole, and every ask was answered and sent, or the rest passes; nothing ended the exchange
-pub record AllArrived (a : Account) : Type 0 where
+pub record AllArrived (a : ExchangeAccount) : Type 0 where
   pub request : a.request.course.original.whole ≡ true
   pub response : a.response.course.original.whole ≡ true
   pub live : a.fate ≡ Live

@@ -1,6 +1,6 @@
 //! Laws of the definitions, as contracts of functions that do nothing.
 ghost use Rattle.ext_msgs.specs.Spelling.{ask};
-ghost use Rattle.filter_model.specs.Account.{Account, Live, course, is_finished};
+ghost use Rattle.filter_model.specs.Account.{ExchangeAccount, Live, course, is_finished};
 ghost use Rattle.filter_model.specs.Config.{FilterConfig};
 ghost use Rattle.filter_model.specs.Course.{Changed, changed};
 ghost use Rattle.filter_model.specs.Cut.{is_whole_and_done};
@@ -8,7 +8,7 @@ ghost use Rattle.filter_model.specs.Grown.{Grown};
 ghost use Rattle.filter_model.specs.Outgoing.{IsWire};
 ghost use Rattle.filter_model.specs.Right.{Call, Headline, IsHistory, account, ask_given, is_done};
 ghost use Rattle.filter_model.specs.Step.{is_live, step};
-ghost use Rattle.filter_model.specs.View.{Entry, Lost};
+ghost use Rattle.filter_model.specs.View.{ViewEntry, Lost};
 ghost use Rattle.filter_model.specs.declared.calls.Loss.{Loss};
 ghost use Rattle.filter_model.specs.declared.calls.Side.{Side};
 ghost use Rattle.http_model.specs.Bytes.{IsPrefix};
@@ -44,11 +44,11 @@ pub fn headline()
 /// What each entry leaves standing: asks that were made, and an end; a `Sent` counts for one ask; and a loss that leaves an
 /// exchange alive came behind everything, or to a side that was whole and done.
 pub fn each_step()
-    ensures asks { (c : FilterConfig) (e : Entry) (a : Account) → IsPrefix a.made (step c e a).made }
-    ensures fate { (c : FilterConfig) (e : Entry) (a : Account) → is_live a.fate ≡ false → (step c e a).fate ≡ a.fate }
-    ensures sent { (c : FilterConfig) (e : Entry) (a : Account) →
+    ensures asks { (c : FilterConfig) (e : ViewEntry) (a : ExchangeAccount) → IsPrefix a.made (step c e a).made }
+    ensures fate { (c : FilterConfig) (e : ViewEntry) (a : ExchangeAccount) → is_live a.fate ≡ false → (step c e a).fate ≡ a.fate }
+    ensures sent { (c : FilterConfig) (e : ViewEntry) (a : ExchangeAccount) →
         (a.sent ≤ (step c e a).sent) × ((step c e a).sent ≤ a.sent + 1) }
-    ensures loss { (c : FilterConfig) (s : Side) (how : Loss) (a : Account) → is_live a.fate ≡ true →
+    ensures loss { (c : FilterConfig) (s : Side) (how : Loss) (a : ExchangeAccount) → is_live a.fate ≡ true →
         (step c (Lost s how) a).fate ≡ Live → (is_finished c a ≡ true) ⊎ (is_whole_and_done c a s ≡ true) }
 {}
 

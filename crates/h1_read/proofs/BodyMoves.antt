@@ -12,7 +12,7 @@ use Rattle.http_model.specs.declared.types.Length.{Length}
 use Rattle.http_model.specs.declared.types.Length.TheVariants as length
 use Rattle.http_model.proofs.LinesStable.{chunk_line-stays}
 use Rattle.http_model.proofs.BodiesGrow.{ChunkLeaves, chunk_leaves}
-use Rattle.h1_read.specs.Remaining.{Rest, IsBegun, at_start, remaining, Gives}
+use Rattle.h1_read.specs.Remaining.{Rest, IsBegun, at_start, remaining, GivesContent}
 use Rattle.h1_read.specs.Remaining as rest
 
 -- Contents in front
@@ -65,7 +65,7 @@ whole_line kept bytes more others size e =
     ∙ by_line ((kept ++ bytes) ++ more) (Whole size (others ++ more)) (subst (λ r. Stays r more (chunk_line ((kept ++ bytes) ++ more))) e (chunk_line-stays (kept ++ bytes) more))
 
 pub chunk_begins : (kept bytes : List ℕ) (used size : ℕ) → chunk_line (kept ++ bytes) ≡ Whole size (drop used bytes) → (size ≡ 0 → ⊥)
-    → Gives (rest.Line kept) bytes used [] (rest.Chunk size)
+    → GivesContent (rest.Line kept) bytes used [] (rest.Chunk size)
 chunk_begins kept bytes used size e some ended more = whole_line kept bytes more (drop used bytes) size e ∙ by (size == 0) refl
   where
     by : (x : Bool) → (size == 0) ≡ x
@@ -74,13 +74,13 @@ chunk_begins kept bytes used size e some ended more = whole_line kept bytes more
     by true g = absurd (some (eqb-true size 0 g))
     by false g = refl
 
-pub chunks_end : (kept bytes : List ℕ) (used : ℕ) → chunk_line (kept ++ bytes) ≡ Whole 0 (drop used bytes) → Gives (rest.Line kept) bytes used [] (rest.Trailers [])
+pub chunks_end : (kept bytes : List ℕ) (used : ℕ) → chunk_line (kept ++ bytes) ≡ Whole 0 (drop used bytes) → GivesContent (rest.Line kept) bytes used [] (rest.Trailers [])
 chunks_end kept bytes used e ended more = whole_line kept bytes more (drop used bytes) 0 e
 
 pub line_awaits : (kept bytes : List ℕ) → chunk_line (kept ++ bytes) ≡ Partial → remaining (rest.Line kept) false bytes ≡ part []
 line_awaits kept bytes e = by_line (kept ++ bytes) Partial e
 
-pub line_goes_on : (kept bytes : List ℕ) → Gives (rest.Line kept) bytes (length bytes) [] (rest.Line (kept ++ bytes))
+pub line_goes_on : (kept bytes : List ℕ) → GivesContent (rest.Line kept) bytes (length bytes) [] (rest.Line (kept ++ bytes))
 line_goes_on kept bytes ended more = ap chunked (sym (append_assoc kept bytes more) ∙ ap (λ l. (kept ++ bytes) ++ l) (sym (none_left bytes more)))
   where
     none_left : (bytes more : List ℕ) → drop (length bytes) bytes ++ more ≡ more
@@ -175,7 +175,7 @@ first_slice k bytes = ap (λ n. take n bytes) (whole k)
     whole : (k : ℕ) → k ≡ k - 0
     whole k = omega arith
 
-pub data_gives : (k n : ℕ) (bytes : List ℕ) → k ≤ n → k ≤ length bytes → Gives (rest.Chunk n) bytes k (slice_range bytes 0 k) (rest.Chunk (n - k))
+pub data_gives : (k n : ℕ) (bytes : List ℕ) → k ≤ n → k ≤ length bytes → GivesContent (rest.Chunk n) bytes k (slice_range bytes 0 k) (rest.Chunk (n - k))
 data_gives k n bytes h g ended more =
     some_data k n (bytes ++ more) chunked h (omega (arith, g, length-append bytes more))
     ∙ ap (λ l. behind l (chunks_from (chunk_data (n - k) (drop k (bytes ++ more))) chunked)) (take-append-le k bytes more g ∙ first_slice k bytes)
@@ -183,7 +183,7 @@ data_gives k n bytes h g ended more =
 
 -- A body of known length, and one up to the end
 
-split_past : (n k : ℕ) → k ≤ n → n ≡ k + (n - k)
+pub split_past : (n k : ℕ) → k ≤ n → n ≡ k + (n - k)
 split_past n k h = omega (arith, h)
 
 abbrev known_body : List ℕ → Bool → List ℕ → Body
@@ -200,16 +200,11 @@ known_split k n bytes h g =
     same_end true e = e ∙ sym (le-leb (n - k) (length (drop k bytes)) (omega (arith, leb-true n (length bytes) e, length-drop k bytes)))
     same_end false e = e ∙ sym (lt-leb (length (drop k bytes)) (n - k) (omega (arith, leb-false n (length bytes) e, length-drop k bytes, h, g)))
 
-pub known_gives : (k n : ℕ) (bytes : List ℕ) → k ≤ n → k ≤ length bytes → Gives (rest.Known n) bytes k (slice_range bytes 0 k) (rest.Known (n - k))
+pub known_gives : (k n : ℕ) (bytes : List ℕ) → k ≤ n → k ≤ length bytes → GivesContent (rest.Known n) bytes k (slice_range bytes 0 k) (rest.Known (n - k))
 known_gives k n bytes h g ended more =
     known_split k n (bytes ++ more) h (omega (arith, g, length-append bytes more))
     ∙ ap (λ l. behind l (body (length.Known (n - k)) false (drop k (bytes ++ more)))) (take-append-le k bytes more g ∙ first_slice k bytes)
     ∙ ap (λ l. behind (slice_range bytes 0 k) (body (length.Known (n - k)) false l)) (drop-append-le k bytes more g)
-
-pub close_gives : (bytes : List ℕ) → Gives rest.Close bytes (length bytes) (slice_range bytes 0 (length bytes)) rest.Close
-close_gives bytes ended more =
-    ap (λ l. record { content = l ++ more; trailers = []; whole = ended; fault = None; rest = [] }) (sym (take_all (length bytes) bytes (omega arith)) ∙ first_slice (length bytes) bytes)
-    ∙ ap (λ l. record { content = slice_range bytes 0 (length bytes) ++ (l ++ more); trailers = []; whole = ended; fault = None; rest = [] }) (sym (none_left bytes))
 
 -- The end of a chunk
 
@@ -230,18 +225,18 @@ end_then (b ∷ c ∷ bytes) more e = by (b == 13 && c == 10) e
     by true e = refl
     by false e = absurd cc
 
-pub end_gives : (bytes : List ℕ) → chunk_end [] bytes ≡ Piece [] (drop 2 bytes) → Gives (rest.Chunk 0) bytes 2 [] (rest.Line [])
+pub end_gives : (bytes : List ℕ) → chunk_end [] bytes ≡ Piece [] (drop 2 bytes) → GivesContent (rest.Chunk 0) bytes 2 [] (rest.Line [])
 end_gives bytes e ended more =
     ap (λ x. chunks_from x chunked) (no_data (bytes ++ more) ∙ end_then bytes more e)
 
-pub lf_gives : (bytes : List ℕ) → (length bytes ≡ 0 → ⊥) → get_or bytes 0 0 ≡ 10 → Gives rest.Lf bytes 1 [] (rest.Line [])
+pub lf_gives : (bytes : List ℕ) → (length bytes ≡ 0 → ⊥) → get_or bytes 0 0 ≡ 10 → GivesContent rest.Lf bytes 1 [] (rest.Line [])
 lf_gives [] h e ended more = absurd (h refl)
 lf_gives (b ∷ bytes) h e ended more = ap (λ c. chunks_from (if c == 10 then Piece [] (bytes ++ more) else Wrong []) chunked) e
 
 -- One step, and then another
 
-pub then_gives : (before mid after : Rest) (bytes content : List ℕ) (at used : ℕ) → at ≤ length bytes → Gives before bytes at [] mid
-    → Gives mid (drop at bytes) used content after → Gives before bytes (at + used) content after
+pub then_gives : (before mid after : Rest) (bytes content : List ℕ) (at used : ℕ) → at ≤ length bytes → GivesContent before bytes at [] mid
+    → GivesContent mid (drop at bytes) used content after → GivesContent before bytes (at + used) content after
 then_gives before mid after bytes content at used h g k ended more =
     g ended more ∙ k ended more
     ∙ ap (λ l. behind content (remaining after ended (l ++ more))) (drop-drop used at bytes)

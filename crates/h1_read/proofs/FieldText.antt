@@ -29,7 +29,7 @@ skip-last b (c ∷ s) = by (is_blank c) (skip-last b s)
     by true e = e
     by false e = refl
 
-some_last : (s : List ℕ) (b : ℕ) → is_empty (s ++ b ∷ []) ≡ false
+pub some_last : (s : List ℕ) (b : ℕ) → is_empty (s ++ b ∷ []) ≡ false
 some_last [] b = refl
 some_last (c ∷ s) b = refl
 
@@ -90,14 +90,6 @@ values_of s x = passing grammar.is_value_byte s x
 
 pub all_values : (s : List ℕ) → Values s → AllPass grammar.is_value_byte s
 all_values s x = All-from_recursion (λ b. is_value_byte b ≡ true) s x
-
-Tokens-append : (a b : List ℕ) → Tokens a → Tokens b → Tokens (a ++ b)
-Tokens-append [] b x y = y
-Tokens-append (c ∷ a) b x y = (x.0, Tokens-append a b x.1 y)
-
-Values-append : (a b : List ℕ) → Values a → Values b → Values (a ++ b)
-Values-append [] b x y = y
-Values-append (c ∷ a) b x y = (x.0, Values-append a b x.1 y)
 
 -- Field lines have the shape of one
 

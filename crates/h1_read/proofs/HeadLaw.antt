@@ -12,6 +12,7 @@ use Rattle.ext_msgs.specs.declared.lists.Field as model
 use Rattle.httparse.specs.Grammar.{LineEnd, crlf, lf, print_end, print_blank}
 use Rattle.httparse.specs.Pieces.{Stops, is_newline}
 use Rattle.h1_read.proofs.LineParts.{Lacks, Lacks-append, line_at, line_open, FirstOf, by_line_feed, cr_of, end_is, cr_lacks, without_cr-end, Ended, ended}
+use Rattle.http_model.proofs.HeadsStable.{fields_behind-stays, head_lines-stays}
 
 -- Tests
 
@@ -213,13 +214,3 @@ by_head_line {A} parse bytes = by (by_first_line bytes)
 
 -- What was read stays read
 
-fields_behind-stays : {A : Type 0} (o : Option A) → IsStable (fields_behind o)
-fields_behind-stays None bytes more = refl
-fields_behind-stays (Some first) bytes more =
-    onward-stays (section BadHead field_limit bytes) (section BadHead field_limit (bytes ++ more)) more (λ fields rest. Whole (first, fields) rest)
-    (λ fields rest e. refl) (section-stays BadHead field_limit bytes more)
-
-pub head_lines-stays : {A : Type 0} (parse : List ℕ → Option A) → IsStable (head_lines parse)
-head_lines-stays parse bytes more =
-    onward-stays (first_line bytes) (first_line (bytes ++ more)) more (λ l rest. fields_behind (parse (without_cr l)) rest)
-    (λ l rest e. fields_behind-stays (parse (without_cr l)) rest more) (first_line-stays bytes more)

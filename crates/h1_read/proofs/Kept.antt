@@ -6,15 +6,13 @@ use Rattle.std.specs.Prelude.{ℕ, ◌≡◌, ◌⊎◌, ◌+◌, ◌-◌, ◌<�
 use Rattle.http_model.specs.Reading.{Reading, Whole, Partial, Bad, Fault, limited, Stays}
 use Rattle.http_model.proofs.Stable.{IsStable}
 use Rattle.h1_read.proofs.ByLimit.{limited_short, limited_long, at_limit, below_or_not}
+use Rattle.h1_read.proofs.BodyMoves.{split_past}
 
 -- what it finds depends on the bytes of it alone
 abbrev pub IsLocal : {A : Type 0} → (List ℕ → Reading A) → Type 0
 IsLocal {A} read = (xs ys zs : List ℕ) (a : A) → read (xs ++ ys) ≡ Whole a ys → read (xs ++ zs) ≡ Whole a zs
 
 -- Lists
-
-split_past : (n k : ℕ) → k ≤ n → n ≡ k + (n - k)
-split_past n k h = omega (arith, h)
 
 take_past : (n : ℕ) (xs zs : List ℕ) → length xs ≤ n → take n (xs ++ zs) ≡ xs ++ take (n - length xs) zs
 take_past n xs zs h =

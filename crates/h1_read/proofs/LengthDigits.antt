@@ -11,6 +11,7 @@ use Rattle.http_model.specs.Heads.{is_length, length_by}
 use Rattle.http_model.specs.declared.types.Length.{Length}
 use Rattle.http_model.specs.declared.types.Length.TheVariants.{Known}
 use Rattle.h1_read.specs.Lengths.{length_value, is_that_length}
+use Rattle.h1_read.proofs.HeadLaw.{some_byte}
 
 abbrev add_digit : ℕ → ℕ → ℕ
 add_digit n d = 10 * n + (d - 48)
@@ -32,10 +33,6 @@ capped_more digits i n h e =
 pub digits_more : (digits : List ℕ) (i : ℕ) → i < length digits → list_all is_ascii_digit (take i digits) ≡ true → is_ascii_digit (get_or digits i 0) ≡ true
     → list_all is_ascii_digit (take (i + 1) digits) ≡ true
 digits_more digits i h e f = list_all_more is_ascii_digit digits i 0 h ∙ ap (λ t. t && is_ascii_digit (get_or digits i 0)) e ∙ f
-
-some_byte : (s : List ℕ) → 0 < length s → not (is_empty s) ≡ true
-some_byte [] h = absurd (omega arith)
-some_byte (b ∷ s) h = refl
 
 -- by its three tests
 by_tests : (value : List ℕ) (x y z : Bool) → not (is_empty value) ≡ x → list_all is_ascii_digit value ≡ y → nat_lt (decimal_value value) (2 ^ 63) ≡ z

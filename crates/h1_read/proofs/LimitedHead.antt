@@ -18,9 +18,10 @@ use Rattle.h1_read.specs.Parsed.{span_request, span_response, span_fields, digit
 use Rattle.h1_read.specs.HeadParts.{line_of_parts, status_of_parts, IsWholeRequest, IsWholeResponse}
 use Rattle.h1_read.specs.Limits.{is_crowded, section_seen, IsFirstLineEnd, Only}
 use Rattle.h1_read.proofs.LineCount.{seen_only, crowded_long, uncrowded_seen, seen_joined}
-use Rattle.h1_read.proofs.HeadLaw.{HasFirst, by_first_line, head_lines-stays}
+use Rattle.h1_read.proofs.HeadLaw.{HasFirst, by_first_line}
 use Rattle.h1_read.proofs.WholeBehind.{within_limit}
 use Rattle.h1_read.proofs.Limited.{IsFront, limited_whole, limited_bad, limited_long, limited_partial, limited_over}
+use Rattle.http_model.proofs.HeadsStable.{head_lines-stays}
 
 -- The first line stands before its end
 
@@ -132,18 +133,6 @@ crowded_head {A} parse front at seen w f c p =
         (crowded_long BadHead (drop at front) c (after a (section BadHead field_limit (section_seen (drop at front))) e))
 
 -- Within the limit
-
-pub early : {A : Type 0} (parse : List ℕ → Option A) (bytes front : List ℕ) → front ≡ take head_limit bytes → first_line front ≡ Partial → length bytes < 32768 → within_limit (head_lines parse) bytes ≡ Partial
-early {A} parse bytes front e p h = limited_partial (head_lines parse) bytes (ap (head_lines parse) (sym e) ∙ ap next p) h
-  where
-    next : Reading (List ℕ) → Reading (A × List model.Field)
-    next r = onward r (λ l more. fields_behind (parse (without_cr l)) more)
-
-pub late : {A : Type 0} (parse : List ℕ → Option A) (bytes front : List ℕ) → front ≡ take head_limit bytes → first_line front ≡ Partial → 32768 ≤ length bytes → within_limit (head_lines parse) bytes ≡ Bad LongHead
-late {A} parse bytes front e p h = limited_over (head_lines parse) bytes (ap (head_lines parse) (sym e) ∙ ap next p) h
-  where
-    next : Reading (List ℕ) → Reading (A × List model.Field)
-    next r = onward r (λ l more. fields_behind (parse (without_cr l)) more)
 
 pub whole_head : {A : Type 0} (parse : List ℕ → Option A) (bytes front : List ℕ) (at : ℕ) (seen : List ℕ) (a : A × List model.Field) (len : ℕ)
     → front ≡ take head_limit bytes → IsHeadSeen front at seen → len ≤ length seen → head_lines parse seen ≡ Whole a (drop len seen)

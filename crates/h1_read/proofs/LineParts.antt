@@ -120,10 +120,6 @@ split_at-first c [] s x = rw (same c) refl
     same c = grind (arith, nat_tests)
 split_at-first c (b ∷ a) s x = rw (x.0, split_at-first c a s x.1) refl
 
-pub split_at-lacks : (c : ℕ) (s : List ℕ) → Lacks c s → split_at c s ≡ (s, [])
-split_at-lacks c [] x = refl
-split_at-lacks c (b ∷ s) x = rw (x.0, split_at-lacks c s x.1) refl
-
 -- the parts with the byte between them, or nothing behind it
 pub split_at-joined : (c : ℕ) (s : List ℕ) → (s ≡ (split_at c s).0 ++ c ∷ (split_at c s).1) ⊎ ((split_at c s).1 ≡ [])
 split_at-joined c [] = inr refl

@@ -64,9 +64,5 @@ first_here s at inside e = rw (drop_more s at 0 inside) (not_empty (get_or s at 
 pub first_none : (s : List ℕ) (at : ℕ) → length s ≤ at → first_line (drop at s) ≡ line (drop at s)
 first_none s at past = rw (drop_all at s past) refl
 
-pub begins_lf : (s : List ℕ) → begins_with_lf s ≡ (get_or s 0 0 == 10)
-begins_lf [] = refl
-begins_lf (b ∷ s) = refl
-
 pub lacks_all : (s : List ℕ) (at : ℕ) → length s ≤ at → Lacks 10 (take at s) → line s ≡ Partial
 lacks_all s at past x = line_open s (subst (Lacks 10) (take_all at s past) x)

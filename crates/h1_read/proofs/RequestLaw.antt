@@ -21,8 +21,9 @@ use Rattle.httparse.proofs.GrammarLemmas.{print_request-append}
 use Rattle.h1_read.specs.Agreement.{field_of_line, line_of_request, IsRequest, CompletesRequest, AgreesOnRequests}
 use Rattle.h1_read.proofs.LineParts.{Lacks, Lacks-append, Lacks-pass, passing, split_at-first, split_at-joined}
 use Rattle.h1_read.proofs.FieldText.{Tokens, tokens_of, all_tokens}
-use Rattle.h1_read.proofs.SectionLaw.{section_found, section_exceeds, section_tells, Tells}
-use Rattle.h1_read.proofs.HeadLaw.{and_first, and_second, and_both, bytes_same, all_true, from_all_true, some_byte, from_some_byte, with_first, IsFirst, head_read, HasLine, by_head_line, head_lines-stays}
+use Rattle.h1_read.proofs.SectionLaw.{section_found, section_exceeds, section_tells, Tells, few_or_many}
+use Rattle.h1_read.proofs.HeadLaw.{and_first, and_second, and_both, bytes_same, all_true, from_all_true, some_byte, from_some_byte, with_first, IsFirst, head_read, HasLine, by_head_line}
+use Rattle.http_model.proofs.HeadsStable.{head_lines-stays}
 
 -- Versions
 
@@ -265,9 +266,6 @@ request_tells bytes = by (by_head_line request_line bytes)
     by : HasLine request_line bytes ⊎ ((first_line bytes ≡ Partial) × (head_lines request_line bytes ≡ Partial)) → RequestTells bytes (head_lines request_line bytes)
     by (inl w) = subst (RequestTells bytes) (sym w.read) (by_line w (request_line w.text) refl)
     by (inr w) = subst (RequestTells bytes) (sym w.1) (inl w.0)
-
-few_or_many : (n m : ℕ) → (m ≤ n) ⊎ (n < m)
-few_or_many n m = grind arith
 
 stays_bad : (bytes more : List ℕ) (f : Fault) → head_lines request_line bytes ≡ Bad f → head_lines request_line (bytes ++ more) ≡ Bad f
 stays_bad bytes more f e = subst (λ r. Stays r more (head_lines request_line (bytes ++ more))) e (head_lines-stays request_line bytes more)

@@ -18,9 +18,10 @@ use Rattle.httparse.proofs.GrammarLemmas.{print_response-append}
 use Rattle.h1_read.specs.Agreement.{field_of_line, line_of_response, IsResponse, AgreesOnResponses}
 use Rattle.h1_read.proofs.LineParts.{Lacks, Lacks-append, Lacks-pass, passing, split_at-first, split_at-joined}
 use Rattle.h1_read.proofs.FieldText.{Values}
-use Rattle.h1_read.proofs.SectionLaw.{section_found, section_exceeds, section_tells, Tells}
-use Rattle.h1_read.proofs.HeadLaw.{and_first, and_second, and_both, all_true, from_all_true, with_first, IsFirst, head_read, HasLine, by_head_line, head_lines-stays}
+use Rattle.h1_read.proofs.SectionLaw.{section_found, section_exceeds, section_tells, Tells, few_or_many}
+use Rattle.h1_read.proofs.HeadLaw.{and_first, and_second, and_both, all_true, from_all_true, with_first, IsFirst, head_read, HasLine, by_head_line}
 use Rattle.h1_read.proofs.RequestLaw.{version_lacks, minor_of-version, version_back}
+use Rattle.http_model.proofs.HeadsStable.{head_lines-stays}
 
 -- Status lines
 
@@ -238,9 +239,6 @@ response_tells bytes = by (by_head_line status_line bytes)
     by : HasLine status_line bytes ⊎ ((first_line bytes ≡ Partial) × (head_lines status_line bytes ≡ Partial)) → ResponseTells bytes (head_lines status_line bytes)
     by (inl w) = subst (ResponseTells bytes) (sym w.read) (by_line w (status_line w.text) refl)
     by (inr w) = subst (ResponseTells bytes) (sym w.1) (inl w.0)
-
-few_or_many : (n m : ℕ) → (m ≤ n) ⊎ (n < m)
-few_or_many n m = grind arith
 
 stays_bad : (bytes more : List ℕ) (f : Fault) → head_lines status_line bytes ≡ Bad f → head_lines status_line (bytes ++ more) ≡ Bad f
 stays_bad bytes more f e = subst (λ r. Stays r more (head_lines status_line (bytes ++ more))) e (head_lines-stays status_line bytes more)

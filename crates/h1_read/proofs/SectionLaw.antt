@@ -85,10 +85,6 @@ fields_fit bad n (f ∷ fs) s x =
     one : (m n : ℕ) → suc m + n ≡ suc (m + n)
     one m n = omega arith
 
-with_fields-bad : (fs : List model.Field) (f : Fault) → with_fields fs (Bad f) ≡ Bad f
-with_fields-bad [] f = refl
-with_fields-bad (g ∷ fs) f = ap (with_field g) (with_fields-bad fs f)
-
 with_fields-whole : (fs gs : List model.Field) (rest : List ℕ) → with_fields fs (Whole gs rest) ≡ Whole (fs ++ gs) rest
 with_fields-whole [] gs rest = refl
 with_fields-whole (f ∷ fs) gs rest = ap (with_field f) (with_fields-whole fs gs rest)

@@ -11,7 +11,7 @@ use Rattle.http_model.specs.Heads.{connection_options, is_shown, one_length, sho
 use Rattle.h1_read.proofs.LineParts.{Lacks, Lacks-append}
 use Rattle.h1_read.proofs.NamedFields.{named_here, named_next, named_none}
 
-nat_eq_sym : (x y : ℕ) → (x == y) ≡ (y == x)
+pub nat_eq_sym : (x y : ℕ) → (x == y) ≡ (y == x)
 nat_eq_sym x y = grind (arith, nat_tests)
 
 pub bytes_eq_sym : (a b : List ℕ) → bytes_eq a b ≡ bytes_eq b a
@@ -30,9 +30,6 @@ parts_first : (a s : List ℕ) → Lacks 44 a → comma_parts (a ++ 44 ∷ s) �
 parts_first [] s x = refl
 parts_first (b ∷ a) s x =
     ap (λ t. if t then [] ∷ comma_parts (a ++ 44 ∷ s) else with_first b (comma_parts (a ++ 44 ∷ s))) x.0 ∙ ap (with_first b) (parts_first a s x.1)
-
-abbrev has : List ℕ → List ℕ → Bool
-has name list = is_one_of (map lower (list_items list)) name
 
 -- the bytes from start on, up to i
 abbrev pub item : List ℕ → ℕ → ℕ → List ℕ

@@ -8,13 +8,9 @@ use Rattle.http_model.specs.declared.types.Direction.TheVariants.{Request, Respo
 use Rattle.http_model.proofs.Stable.{LeavesUnder, limited-leaves, limited-stays}
 use Rattle.ext_msgs.specs.declared.lists.Field as model
 use Rattle.h1_read.specs.HeadParts.{response_lines}
-use Rattle.h1_read.proofs.HeadLaw.{head_lines-stays}
-use Rattle.h1_read.proofs.StepLaw.{head_lines-leaves}
 use Rattle.h1_read.proofs.TurnLaw.{after_lines, one_turn, after_whole}
 use Rattle.http_model.specs.Reading as reading
-
-leaves : (bytes : List ℕ) → LeavesUnder (length bytes) (response_lines bytes)
-leaves = limited-leaves head_limit LongHead (head_lines status_line) (head_lines-leaves status_line)
+use Rattle.http_model.proofs.HeadsStable.{head_lines-stays, response_lines-leaves, head_lines-leaves}
 
 -- how many responses there may be doesn't matter, if they are enough
 after_same : (n m k : ℕ) (to_head : Bool) (r : Reading (StatusLine × List model.Field)) → LeavesUnder k r
@@ -37,13 +33,13 @@ enough zero m to_head bytes h k = absurd (omega arith)
 enough (suc n) zero to_head bytes h k = absurd (omega arith)
 enough (suc n) (suc m) to_head bytes h k =
     one_turn n to_head bytes
-    ∙ after_same n m (length bytes) to_head (response_lines bytes) (leaves bytes) (λ rest l. enough n m to_head rest (omega (arith, l, h)) (omega (arith, l, k)))
+    ∙ after_same n m (length bytes) to_head (response_lines bytes) (response_lines-leaves bytes) (λ rest l. enough n m to_head rest (omega (arith, l, h)) (omega (arith, l, k)))
     ∙ sym (one_turn m to_head bytes)
 
 goes_on : (n : ℕ) (to_head : Bool) (bytes more : List ℕ) → response_message to_head (bytes ++ more) ≡ response_message to_head (behind_interims n bytes ++ more)
 unfolding behind_interims response_message
 goes_on zero to_head bytes more = refl
-goes_on (suc n) to_head bytes more = by (response_lines bytes) (leaves bytes) (limited-stays head_limit LongHead (head_lines status_line) (head_lines-stays status_line) bytes more) (goes_on n to_head)
+goes_on (suc n) to_head bytes more = by (response_lines bytes) (response_lines-leaves bytes) (limited-stays head_limit LongHead (head_lines status_line) (head_lines-stays status_line) bytes more) (goes_on n to_head)
   where
     whole : (h : StatusLine × List model.Field) (rest : List ℕ) → length rest < length bytes → response_lines (bytes ++ more) ≡ Whole h (rest ++ more)
         → ((b m : List ℕ) → response_message_in (suc (length (b ++ m))) to_head (b ++ m) ≡ response_message_in (suc (length (behind_interims n b ++ m))) to_head (behind_interims n b ++ m))

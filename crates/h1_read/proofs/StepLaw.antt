@@ -10,27 +10,12 @@ use Rattle.ext_msgs.specs.declared.lists.Field as model
 use Rattle.httparse.specs.Grammar.{RequestHead, print_request, ReadsRequest, ResponseHead, print_response, ReadsResponse}
 use Rattle.h1_read.specs.Agreement.{field_of_line, line_of_request, line_of_response}
 use Rattle.h1_read.specs.HeadParts.{request_lines, response_lines}
-use Rattle.h1_read.proofs.WholeBehind.{within_limit, IsLocal, covers, past}
+use Rattle.h1_read.proofs.WholeBehind.{within_limit, IsLocal, covers, past, le_or_lt}
 use Rattle.h1_read.proofs.RequestLaw.{RequestTells, request_found, request_exceeds, request_tells}
 use Rattle.h1_read.proofs.ResponseLaw.{ResponseTells, response_found, response_exceeds, response_tells}
+use Rattle.http_model.proofs.HeadsStable.{fields_behind-leaves, head_lines-leaves}
 
 -- A head takes at least one byte
-
-fields_behind-leaves : {A : Type 0} (n : ℕ) (o : Option A) (rest : List ℕ) → length rest < n → LeavesUnder n (fields_behind o rest)
-fields_behind-leaves n None rest h = tt
-fields_behind-leaves n (Some first) rest h =
-    onward-leaves n (section BadHead field_limit rest) (λ fields more. Whole (first, fields) more) (λ fields more e. e)
-    (less (section BadHead field_limit rest) (section-leaves BadHead field_limit rest))
-  where
-    less : (r : Reading (List model.Field)) → LeavesUnder (suc (length rest)) r → LeavesUnder n r
-    less (Whole fields more) e = omega (arith, h, e)
-    less Partial e = tt
-    less (Bad f) e = tt
-
-pub head_lines-leaves : {A : Type 0} (parse : List ℕ → Option A) (bytes : List ℕ) → LeavesUnder (length bytes) (head_lines parse bytes)
-head_lines-leaves parse bytes =
-    onward-leaves (length bytes) (first_line bytes) (λ l rest. fields_behind (parse (without_cr l)) rest)
-    (λ l rest e. fields_behind-leaves (length bytes) (parse (without_cr l)) rest e) (first_line-leaves bytes)
 
 pub some_used : {A : Type 0} (parse : List ℕ → Option A) (bytes : List ℕ) (a : A × List model.Field) (used : ℕ) → used ≤ length bytes
     → within_limit (head_lines parse) bytes ≡ Whole a (drop used bytes) → 0 < used
@@ -40,9 +25,6 @@ some_used {A} parse bytes a used fits e =
     omega (arith, less, fits, length-drop used bytes)
 
 -- A head that was open is whole behind what was there
-
-le_or_lt : (n m : ℕ) → (n ≤ m) ⊎ (m < n)
-le_or_lt n m = grind arith
 
 requests_local : IsLocal (head_lines request_line)
 requests_local kept more rest a unfinished whole = by (subst (RequestTells (kept ++ more)) whole (request_tells (kept ++ more))) (le_or_lt (length rest) (length more))

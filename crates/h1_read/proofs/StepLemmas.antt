@@ -1,4 +1,4 @@
--- Steps of a body reader, one behind another.
+-- BodySteps of a body reader, one behind another.
 use Rattle.std.proofs.Common.{sym, ◌∙◌, ap, subst, arith, append_assoc, append-nil, length-drop, drop-drop}
 use Rattle.std.specs.Prelude.{ℕ, ◌≡◌, ◌+◌, ◌-◌, ◌≤◌, false, List, [], ◌++◌, length, take, drop, slice_range, Err}
 use Rattle.ext_msgs.specs.declared.lists.Field.{Field}
@@ -9,9 +9,9 @@ use Rattle.http_model.specs.Heads.{head_limit, field_limit}
 use Rattle.http_model.specs.Bodies.{Body, part, faulty, whole_body, behind, trailers_read, trailers_behind}
 use Rattle.http_model.proofs.LinesStable.{section-stays}
 use Rattle.http_model.proofs.Stable.{limited-stays}
-use Rattle.h1_read.specs.Remaining.{Rest, remaining, Gives, Ends, FedPiece}
+use Rattle.h1_read.specs.Remaining.{Rest, remaining, GivesContent, Ends, FedPiece}
 use Rattle.h1_read.specs.Remaining as rest
-use Rattle.h1_read.specs.Stages.{Steps, StartsWithin, shifted_piece}
+use Rattle.h1_read.specs.Stages.{BodySteps, StartsWithin, shifted_piece}
 use Rattle.h1_read.specs.declared.piece.Piece.{Piece}
 use Rattle.h1_read.specs.declared.piece.Piece.TheVariants as piece
 use Rattle.h1_read.specs.declared.body_stage.Stop.{Stop}
@@ -37,12 +37,12 @@ slice_behind bytes at start end =
     same a s e = omega arith
 
 -- what is read behind so many bytes that gave nothing
-behind_front : (before mid : Rest) (bytes : List ℕ) (at : ℕ) (b : Body) → Gives before bytes at [] mid → remaining mid false (drop at bytes) ≡ b
+behind_front : (before mid : Rest) (bytes : List ℕ) (at : ℕ) (b : Body) → GivesContent before bytes at [] mid → remaining mid false (drop at bytes) ≡ b
     → remaining before false bytes ≡ behind [] b
 behind_front before mid bytes at b g e =
     ap (remaining before false) (sym (append-nil bytes)) ∙ g false [] ∙ ap (λ l. behind [] (remaining mid false l)) (append-nil (drop at bytes)) ∙ ap (behind []) e
 
-pub then_fed : (before mid after : Rest) (bytes : List ℕ) (at : ℕ) (p : Piece) (used : ℕ) → at ≤ length bytes → Gives before bytes at [] mid
+pub then_fed : (before mid after : Rest) (bytes : List ℕ) (at : ℕ) (p : Piece) (used : ℕ) → at ≤ length bytes → GivesContent before bytes at [] mid
     → FedPiece mid (drop at bytes) after p used → FedPiece before bytes after (shifted_piece at p) (at + used)
 then_fed before mid after bytes at piece.More used h g f =
     (omega (arith, h, f.0, length-drop at bytes), then_gives before mid after bytes [] at used h g f.1, behind_front before mid bytes at (part []) g f.2)
@@ -50,7 +50,7 @@ then_fed before mid after bytes at (piece.Data start len) used h g f = (
   f.0,
   omega (arith, f.1),
   omega (arith, h, f.2, length-drop at bytes),
-  subst (λ l. Gives before bytes (at + used) l after) (slice_behind bytes at start used) (then_gives before mid after bytes (slice_range (drop at bytes) start used) at used h g f.3),
+  subst (λ l. GivesContent before bytes (at + used) l after) (slice_behind bytes at start used) (then_gives before mid after bytes (slice_range (drop at bytes) start used) at used h g f.3),
 )
 then_fed before mid after bytes at (piece.End trailers) used h g f = (
   record {
@@ -60,8 +60,8 @@ then_fed before mid after bytes at (piece.End trailers) used h g f = (
   f.1,
 )
 
-pub then_steps : (before mid : Rest) (bytes new : List ℕ) (at : ℕ) (s : Stop) → Gives before bytes at [] mid
-    → Steps mid (drop at bytes) new (Err s) → Steps before bytes new (Err s)
+pub then_steps : (before mid : Rest) (bytes new : List ℕ) (at : ℕ) (s : Stop) → GivesContent before bytes at [] mid
+    → BodySteps mid (drop at bytes) new (Err s) → BodySteps before bytes new (Err s)
 then_steps before mid bytes new at stop.Bad g e = behind_front before mid bytes at (faulty [] BadChunk) g e
 then_steps before mid bytes new at stop.Long g e = behind_front before mid bytes at (faulty [] LongHead) g e
 then_steps before mid bytes new at stop.Memory g e = tt
@@ -88,6 +88,6 @@ pub section_bad : (kept bytes : List ℕ) (f : Fault) → trailer_section (kept 
 unfolding trailers_behind
 section_bad kept bytes f e = ap trailers_read e
 
-pub section_goes_on : (kept bytes : List ℕ) → Gives (rest.Trailers kept) bytes (length bytes) [] (rest.Trailers (kept ++ bytes))
+pub section_goes_on : (kept bytes : List ℕ) → GivesContent (rest.Trailers kept) bytes (length bytes) [] (rest.Trailers (kept ++ bytes))
 section_goes_on kept bytes ended more =
     ap trailers_behind (sym (append_assoc kept bytes more) ∙ ap (λ l. (kept ++ bytes) ++ (l ++ more)) (sym (none_left bytes)))

@@ -4,9 +4,7 @@ use Rattle.std.proofs.lemmas.List.{drop_more, drop_all, take_more, take_all}
 use Rattle.std.proofs.lemmas.Bool.Decides.{nat_tests}
 use Rattle.http_model.specs.Bytes.{lower, lower_byte, begins_with}
 use Rattle.http_model.specs.Heads.{span}
-
-same_test : (x y : ℕ) → (x == y) ≡ (y == x)
-same_test x y = grind (arith, nat_tests)
+use Rattle.h1_read.proofs.ShownFields.{nat_eq_sym}
 
 pub too_short : (text prefix : List ℕ) → length text < length prefix → begins_with prefix (lower text) ≡ false
 too_short text [] h = absurd (omega arith)
@@ -25,7 +23,7 @@ begins_lower text [] h = none text
     none (b ∷ text) = refl
 begins_lower [] (x ∷ prefix) h = absurd (omega arith)
 begins_lower (y ∷ text) (x ∷ prefix) h =
-    ap (λ t. x == lower_byte y && t) (begins_lower text prefix (omega arith)) ∙ ap (λ t. t && bytes_eq (lower (take (length prefix) text)) prefix) (same_test x (lower_byte y))
+    ap (λ t. x == lower_byte y && t) (begins_lower text prefix (omega arith)) ∙ ap (λ t. t && bytes_eq (lower (take (length prefix) text)) prefix) (nat_eq_sym x (lower_byte y))
 
 -- The bytes at the front that pass a test
 

@@ -3,6 +3,7 @@ use Rattle.std.proofs.Common.{◌≡◌, ◌≢◌, ℕ, suc, ◌+◌, ◌-◌, 
 use Rattle.std.proofs.lemmas.List.{drop_more, drop_all, take_more}
 use Rattle.std.proofs.lemmas.Bool.Decides.{nat_tests}
 use Rattle.http_model.specs.Bytes.{is_empty, is_blank, lower_byte, lower, trim_start, trim_end}
+use Rattle.h1_read.proofs.FieldText.{some_last}
 
 -- In lower case
 
@@ -49,10 +50,6 @@ start_none s i h = rw (drop_all i s h) refl
 blank_last : (s : List ℕ) (b : ℕ) → is_blank b ≡ true → trim_end (s ++ b ∷ []) ≡ trim_end s
 blank_last [] b e = ap (λ t. if t && true then [] else b ∷ []) e
 blank_last (c ∷ s) b e = ap (λ r. if is_blank c && is_empty r then [] else c ∷ r) (blank_last s b e)
-
-some_last : (s : List ℕ) (b : ℕ) → is_empty (s ++ b ∷ []) ≡ false
-some_last [] b = refl
-some_last (c ∷ s) b = refl
 
 other_last : (s : List ℕ) (b : ℕ) → is_blank b ≡ false → trim_end (s ++ b ∷ []) ≡ s ++ b ∷ []
 other_last [] b e = ap (λ t. if t && true then [] else b ∷ []) e

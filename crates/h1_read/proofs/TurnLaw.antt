@@ -303,10 +303,6 @@ fed_got d to_head all kept bytes m used j o w =
 pub kept_again : (all kept bytes : List ℕ) → all ≡ kept ++ bytes → take (length kept) all ≡ kept
 kept_again all kept bytes j = ap (take (length kept)) j ∙ take-append_seam kept bytes
 
-pub none_open : (d : Direction) → IsOpen d []
-none_open Request = refl
-none_open Response = refl
-
 -- an open head is within the limit
 pub open_small : (d : Direction) (bytes : List ℕ) → IsOpen d bytes → length bytes < 32768
 open_small Request bytes e = (open_within (head_lines request_line (take head_limit bytes)) bytes e).1

@@ -86,7 +86,7 @@ past read local bytes a used fits e kept more j unfinished =
 
 -- sections
 
-le_or_lt : (n m : ℕ) → (n ≤ m) ⊎ (m < n)
+pub le_or_lt : (n m : ℕ) → (n ≤ m) ⊎ (m < n)
 le_or_lt n m = grind arith
 
 sections_local : IsLocal (section BadChunk field_limit)

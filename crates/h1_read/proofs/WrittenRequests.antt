@@ -18,11 +18,12 @@ use Rattle.http_model.specs.declared.types.Length.{Length}
 use Rattle.http_model.specs.declared.types.Length.TheVariants as length
 use Rattle.h1_read.specs.Written.{given, is_writable, is_readable, is_other, is_high, others, method_of, path_of, authority_of, IsRequestHead, IsAcceptedRequest, IsLength, request_fields, Fits, framing_fields, common_fields, given_length, request_length, given_request}
 use Rattle.h1_read.proofs.LineParts.{Lacks, Lacks-append, Lacks-pass, split_at-first}
-use Rattle.h1_read.proofs.HeadLaw.{IsFirst, head_lines-stays, and_first, and_second, and_both, from_all_true, from_some_byte, first_parsed, bytes_same}
+use Rattle.h1_read.proofs.HeadLaw.{IsFirst, and_first, and_second, and_both, from_all_true, from_some_byte, first_parsed, bytes_same}
 use Rattle.h1_read.proofs.Kept.{Found, found_within}
 use Rattle.h1_read.proofs.WrittenSections.{section_written, written_given, written_whole}
 use Rattle.h1_read.proofs.WrittenBodies.{limited_whole}
 use Rattle.h1_read.proofs.WrittenFields.{Owns, others_own, others_writable, behind_fields, behind_given, map-append, weaker, decimal_digits, high_kept, framed_length, stated, request_shown, expectations, hosts}
+use Rattle.http_model.proofs.HeadsStable.{head_lines-stays}
 
 -- The bytes of the head
 

@@ -18,12 +18,13 @@ use Rattle.http_model.specs.declared.types.Length.{Length}
 use Rattle.http_model.specs.declared.types.Length.TheVariants as length
 use Rattle.h1_read.specs.Written.{given, others, status_of, IsResponseHead, IsAcceptedResponse, IsLength, Fits, common_fields, given_length, response_length, given_response}
 use Rattle.h1_read.proofs.LineParts.{Lacks, Lacks-append, Lacks-pass, split_at-first}
-use Rattle.h1_read.proofs.HeadLaw.{IsFirst, head_lines-stays, and_first, and_second, and_both, from_all_true, first_parsed}
+use Rattle.h1_read.proofs.HeadLaw.{IsFirst, and_first, and_second, and_both, from_all_true, first_parsed}
 use Rattle.h1_read.proofs.Kept.{Found, found_within}
 use Rattle.h1_read.proofs.WrittenSections.{section_written, written_given, written_whole}
 use Rattle.h1_read.proofs.WrittenBodies.{limited_whole}
 use Rattle.h1_read.proofs.WrittenFields.{others_own, behind_fields, behind_given, map-append, framed_length, stated, response_shown}
 use Rattle.h1_read.proofs.WrittenRequests.{common_lines, common_writable, common_readable}
+use Rattle.http_model.proofs.HeadsStable.{head_lines-stays}
 
 -- The phrases
 

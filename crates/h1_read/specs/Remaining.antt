@@ -54,8 +54,8 @@ kept_bytes (Trailers kept) = kept
 kept_bytes _ = []
 
 -- of these bytes some are used and give this content, and the others are left to read
-abbrev pub Gives : Rest → List ℕ → ℕ → List ℕ → Rest → Type 0
-Gives before bytes used content after =
+abbrev pub GivesContent : Rest → List ℕ → ℕ → List ℕ → Rest → Type 0
+GivesContent before bytes used content after =
     (ended : Bool) (more : List ℕ) → remaining before ended (bytes ++ more) ≡ behind content (remaining after ended (drop used bytes ++ more))
 
 -- of these bytes those that are used end the body
@@ -65,9 +65,9 @@ pub record Ends (before : Rest) (bytes : List ℕ) (used : ℕ) (trailers : List
 
 -- what one call answers of these bytes: with no content they are all used and the body goes on
 abbrev pub FedPiece : Rest → List ℕ → Rest → Piece → ℕ → Type 0
-FedPiece before bytes after piece.More used = (used ≡ length bytes) × Gives before bytes used [] after × (remaining before false bytes ≡ part [])
+FedPiece before bytes after piece.More used = (used ≡ length bytes) × GivesContent before bytes used [] after × (remaining before false bytes ≡ part [])
 FedPiece before bytes after (piece.Data start len) used =
-    (0 < len) × (used ≡ start + len) × (used ≤ length bytes) × Gives before bytes used (slice_range bytes start used) after
+    (0 < len) × (used ≡ start + len) × (used ≤ length bytes) × GivesContent before bytes used (slice_range bytes start used) after
 FedPiece before bytes after (piece.End trailers) used = Ends before bytes used trailers × (after ≡ Over)
 
 -- behind a fault nothing is left; out of memory leaves the reader as it was

@@ -29,11 +29,11 @@ rest_of stage.Bad kept = rest.Failed BadChunk
 rest_of stage.Long kept = rest.Failed LongHead
 
 -- what a step makes of bytes, with what is kept behind it
-abbrev pub Steps : Rest → List ℕ → List ℕ → Result Fed Stop → Type 0
-Steps before bytes new (Ok fed) = FedPiece before bytes (rest_of fed.stage new) fed.piece fed.used
-Steps before bytes new (Err stop.Bad) = remaining before false bytes ≡ faulty [] BadChunk
-Steps before bytes new (Err stop.Long) = remaining before false bytes ≡ faulty [] LongHead
-Steps before bytes new (Err stop.Memory) = Unit {0}
+abbrev pub BodySteps : Rest → List ℕ → List ℕ → Result Fed Stop → Type 0
+BodySteps before bytes new (Ok fed) = FedPiece before bytes (rest_of fed.stage new) fed.piece fed.used
+BodySteps before bytes new (Err stop.Bad) = remaining before false bytes ≡ faulty [] BadChunk
+BodySteps before bytes new (Err stop.Long) = remaining before false bytes ≡ faulty [] LongHead
+BodySteps before bytes new (Err stop.Memory) = Unit {0}
 
 -- what is kept behind it is a beginning
 abbrev pub KeepsBegun : Result Fed Stop → List ℕ → Type 0

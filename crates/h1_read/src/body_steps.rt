@@ -5,8 +5,8 @@ ghost use Rattle.http_model.specs.Lines.{chunk_line};
 ghost use Rattle.h1_read.specs.Sections.{trailer_section};
 ghost use Rattle.http_model.specs.Reading.{Partial};
 ghost use Rattle.h1_read.specs.Remaining as rest;
-ghost use Rattle.h1_read.specs.Remaining.{Rest, Gives, IsBegun};
-ghost use Rattle.h1_read.specs.Stages.{rest_of, Feeds, KeepsNone, Steps, KeepsBegun, OnMemory, StartsWithin, shifted};
+ghost use Rattle.h1_read.specs.Remaining.{Rest, GivesContent, IsBegun};
+ghost use Rattle.h1_read.specs.Stages.{rest_of, Feeds, KeepsNone, BodySteps, KeepsBegun, OnMemory, StartsWithin, shifted};
 ghost use Rattle.h1_read.specs.declared.body_stage.Stage.TheVariants as stage;
 
 use crate::body_stage::{ChunkEnd, Fed, Stage, Stop, end_of_chunk};
@@ -117,7 +117,7 @@ fn data_of(left: u64, bytes: &[u8]) -> Fed
 // The trailer section, of which nothing came before. What it leaves unread is kept in place of what was kept.
 fn section(alloc: Global, kept: &mut Vec<u8>, bytes: &[u8]) -> Result<Fed, Stop>
     requires { length bytes.now < 2 ^ 32 }
-    ensures steps { Steps (rest.Trailers []) bytes.now kept.new.items result }
+    ensures steps { BodySteps (rest.Trailers []) bytes.now kept.new.items result }
     ensures begun { KeepsBegun result kept.new.items }
     ensures memory { OnMemory result (kept.new.items ≡ kept.old.items) }
 {
@@ -146,7 +146,7 @@ fn section(alloc: Global, kept: &mut Vec<u8>, bytes: &[u8]) -> Result<Fed, Stop>
 pub(crate) fn trailers(alloc: Global, kept: &mut Vec<u8>, bytes: &[u8]) -> Result<Fed, Stop>
     requires begun { trailer_section kept.old.items ≡ Partial }
     requires short { length bytes.now < 2 ^ 32 }
-    ensures steps { Steps (rest.Trailers kept.old.items) bytes.now kept.new.items result }
+    ensures steps { BodySteps (rest.Trailers kept.old.items) bytes.now kept.new.items result }
     ensures begun { KeepsBegun result kept.new.items }
     ensures memory { OnMemory result (kept.new.items ≡ kept.old.items) }
 {
@@ -170,7 +170,7 @@ pub(crate) fn trailers(alloc: Global, kept: &mut Vec<u8>, bytes: &[u8]) -> Resul
 pub(crate) fn line(alloc: Global, kept: &mut Vec<u8>, bytes: &[u8]) -> Result<Fed, Stop>
     requires begun { chunk_line kept.old.items ≡ Partial }
     requires short { length bytes.now < 2 ^ 32 }
-    ensures steps { Steps (rest.Line kept.old.items) bytes.now kept.new.items result }
+    ensures steps { BodySteps (rest.Line kept.old.items) bytes.now kept.new.items result }
     ensures begun { KeepsBegun result kept.new.items }
     ensures memory { OnMemory result (kept.new.items ≡ kept.old.items) }
 {
@@ -195,8 +195,8 @@ fn sized(
 ) -> Result<Fed, Stop>
     requires inside { used ≤ length bytes.now }
     requires short { length bytes.now < 2 ^ 32 }
-    ensures steps { (before : Rest) → (0 < size → Gives before bytes.now used [] (rest.Chunk size)) → (size ≡ 0 → Gives before bytes.now used [] (rest.Trailers []))
-        → Steps before bytes.now kept.new.items result }
+    ensures steps { (before : Rest) → (0 < size → GivesContent before bytes.now used [] (rest.Chunk size)) → (size ≡ 0 → GivesContent before bytes.now used [] (rest.Trailers []))
+        → BodySteps before bytes.now kept.new.items result }
     ensures begun { KeepsBegun result kept.new.items }
     ensures memory { OnMemory result (kept.new.items ≡ kept.old.items) }
 {
@@ -213,7 +213,7 @@ fn sized(
 /// Bytes of a chunk's data, or its end and what stands behind it.
 pub(crate) fn chunk(alloc: Global, kept: &mut Vec<u8>, left: u64, bytes: &[u8]) -> Result<Fed, Stop>
     requires { length bytes.now < 2 ^ 32 }
-    ensures steps { Steps (rest.Chunk left) bytes.now kept.new.items result }
+    ensures steps { BodySteps (rest.Chunk left) bytes.now kept.new.items result }
     ensures begun { KeepsBegun result kept.new.items }
 {
     if left > 0 {
@@ -239,7 +239,7 @@ pub(crate) fn chunk(alloc: Global, kept: &mut Vec<u8>, left: u64, bytes: &[u8]) 
 fn next_line(alloc: Global, kept: &mut Vec<u8>, at: usize, bytes: &[u8]) -> Result<Fed, Stop>
     requires inside { at ≤ length bytes.now }
     requires short { length bytes.now < 2 ^ 32 }
-    ensures steps { (before : Rest) → Gives before bytes.now at [] (rest.Line []) → Steps before bytes.now kept.new.items result }
+    ensures steps { (before : Rest) → GivesContent before bytes.now at [] (rest.Line []) → BodySteps before bytes.now kept.new.items result }
     ensures begun { KeepsBegun result kept.new.items }
 {
     kept.clear();
@@ -253,7 +253,7 @@ fn next_line(alloc: Global, kept: &mut Vec<u8>, at: usize, bytes: &[u8]) -> Resu
 /// The LF of a chunk's end, and what stands behind it.
 pub(crate) fn lf(alloc: Global, kept: &mut Vec<u8>, bytes: &[u8]) -> Result<Fed, Stop>
     requires { length bytes.now < 2 ^ 32 }
-    ensures steps { Steps rest.Lf bytes.now kept.new.items result }
+    ensures steps { BodySteps rest.Lf bytes.now kept.new.items result }
     ensures begun { KeepsBegun result kept.new.items }
 {
     if bytes.is_empty() {
@@ -278,7 +278,7 @@ pub(crate) fn step(
 ) -> Result<Fed, Stop>
     requires begun { IsBegun (rest_of stage kept.old.items) }
     requires short { length bytes.now < 2 ^ 32 }
-    ensures steps { Steps (rest_of stage kept.old.items) bytes.now kept.new.items result }
+    ensures steps { BodySteps (rest_of stage kept.old.items) bytes.now kept.new.items result }
     ensures begun { KeepsBegun result kept.new.items }
     ensures memory { OnMemory result (rest_of stage kept.new.items ≡ rest_of stage kept.old.items) }
 {

@@ -10,13 +10,13 @@ use Rattle.http_model.specs.declared.types.Direction.TheVariants.{Request, Respo
 use Rattle.http_model.proofs.Stable.{IsStable, LeavesUnder, onward-stays, onward-leaves, limited-stays, limited-leaves}
 use Rattle.http_model.proofs.LinesStable.{first_line-stays, first_line-leaves, section-stays, section-leaves}
 
-fields_behind-stays : {A : Type 0} (o : Option A) → IsStable (fields_behind o)
+pub fields_behind-stays : {A : Type 0} (o : Option A) → IsStable (fields_behind o)
 fields_behind-stays None bytes more = refl
 fields_behind-stays (Some first) bytes more =
     onward-stays (section BadHead field_limit bytes) (section BadHead field_limit (bytes ++ more)) more (λ fields rest. Whole (first, fields) rest)
     (λ fields rest e. refl) (section-stays BadHead field_limit bytes more)
 
-head_lines-stays : {A : Type 0} (parse : List ℕ → Option A) → IsStable (head_lines parse)
+pub head_lines-stays : {A : Type 0} (parse : List ℕ → Option A) → IsStable (head_lines parse)
 head_lines-stays parse bytes more =
     onward-stays (first_line bytes) (first_line (bytes ++ more)) more (λ l rest. fields_behind (parse (without_cr l)) rest)
     (λ l rest e. fields_behind-stays (parse (without_cr l)) rest more) (first_line-stays bytes more)
@@ -34,7 +34,7 @@ request_message-stays bytes more =
 
 -- Responses, behind interim ones
 
-fields_behind-leaves : {A : Type 0} (n : ℕ) (o : Option A) (rest : List ℕ) → length rest < n → LeavesUnder n (fields_behind o rest)
+pub fields_behind-leaves : {A : Type 0} (n : ℕ) (o : Option A) (rest : List ℕ) → length rest < n → LeavesUnder n (fields_behind o rest)
 fields_behind-leaves n None rest h = tt
 fields_behind-leaves n (Some first) rest h =
     onward-leaves n (section BadHead field_limit rest) (λ fields more. Whole (first, fields) more) (λ fields more e. e)
@@ -45,12 +45,12 @@ fields_behind-leaves n (Some first) rest h =
     less Partial e = tt
     less (Bad f) e = tt
 
-head_lines-leaves : {A : Type 0} (parse : List ℕ → Option A) (bytes : List ℕ) → LeavesUnder (length bytes) (head_lines parse bytes)
+pub head_lines-leaves : {A : Type 0} (parse : List ℕ → Option A) (bytes : List ℕ) → LeavesUnder (length bytes) (head_lines parse bytes)
 head_lines-leaves parse bytes =
     onward-leaves (length bytes) (first_line bytes) (λ l rest. fields_behind (parse (without_cr l)) rest)
     (λ l rest e. fields_behind-leaves (length bytes) (parse (without_cr l)) rest e) (first_line-leaves bytes)
 
-response_lines-leaves : (bytes : List ℕ) → LeavesUnder (length bytes) (response_lines bytes)
+pub response_lines-leaves : (bytes : List ℕ) → LeavesUnder (length bytes) (response_lines bytes)
 response_lines-leaves = limited-leaves head_limit LongHead (head_lines status_line) (head_lines-leaves status_line)
 
 response_lines-stays : IsStable response_lines

@@ -5,7 +5,7 @@ use Rattle.std.proofs.lemmas.Bool.{cases_lt}
 use Rattle.std.proofs.lemmas.Nat.{div_below, from_le_bytes-to_le_bytes_4, from_le_bytes-to_le_bytes_8}
 use Rattle.std.proofs.lemmas.Grind.{pow_more}
 use Rattle.pb_wire.specs.Records.{Content, varint, fixed64, span, fixed32, Entry, SpellsNumber, IsVarint, Spells}
-use Rattle.pb_wire.specs.Canonical.{shortest, number_record, bytes_record, content_record, record_spelling, ContentFits, Fits}
+use Rattle.pb_wire.specs.Canonical.{shortest, number_record, bytes_record, content_record, record_spelling, ContentFits, IsSpellable}
 use Rattle.pb_wire.proofs.Shortest.{shortest_last, shortest_more}
 
 -- at most j groups more, and the last of these at most 1
@@ -57,5 +57,5 @@ record_spells number (span bytes) low high h =
 record_spells number (fixed32 n) low high h =
     record { tag = shortest (8 * number + 5); behind = to_le_bytes w32 n; is_tag = tag_is number 5 high (omega arith); is_behind = (refl, sym (from_le_bytes-to_le_bytes_4 n h)); low = low; high = high; joined = refl }
 
-pub entry_spells : (e : Entry) → Fits e → Spells (record_spelling e) e
+pub entry_spells : (e : Entry) → IsSpellable e → Spells (record_spelling e) e
 entry_spells e h = record_spells e.number e.content h.low h.high h.content

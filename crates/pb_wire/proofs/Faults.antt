@@ -6,17 +6,13 @@ use Rattle.pb_wire.specs.declared.fault.Cause.{Cause}
 use Rattle.pb_wire.specs.declared.fault.Cause.TheVariants.{Truncated, LongVarint, BadTag, Group}
 use Rattle.pb_wire.specs.Records.{varint, fixed64, span, fixed32, IsVarint, AllHigh, IsCut, IsLong, TagAt, IsNumber, EndsWithin, FirstFault}
 use Rattle.pb_wire.specs.Reading.{◌>>=◌, groups_at, varint_at, fixed_at, tag_of, content_at, entry_at}
-use Rattle.pb_wire.proofs.Spelled.{varint_takes, varint_again, tag_takes, tag_again}
+use Rattle.pb_wire.proofs.Spelled.{varint_takes, varint_again, tag_takes, tag_again, chosen}
 
 abbrev failed : {A : Type 0} → Cause → Result A Cause
 failed c = Err c
 
 err_is : {A : Type 0} (c d : Cause) → failed {A = A} c ≡ failed d → c ≡ d
 err_is c d e = cc
-
-chosen : {Z : Type 0} (b : Bool) (x y z : Z) → cond b x y ≡ z → ((b ≡ true) × (x ≡ z)) ⊎ ((b ≡ false) × (y ≡ z))
-chosen true x y z e = inl (refl, e)
-chosen false x y z e = inr (refl, e)
 
 -- a step that failed, or the next one
 bind_err : {A B : Type 0} (r : Result A Cause) (f : A → Result B Cause) (c : Cause) → (r >>= f) ≡ Err c → (r ≡ Err c) ⊎ ((x : A) × (r ≡ Ok x) × (f x ≡ Err c))

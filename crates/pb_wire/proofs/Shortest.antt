@@ -1,6 +1,7 @@
 -- The shortest spelling of a number, group by group.
 use Rattle.std.proofs.Common.{◌≡◌, ℕ, zero, suc, ◌+◌, ◌/◌, ◌%◌, ◌<◌, ◌≤◌, List, [], ◌∷◌, refl, ap, sym, ◌∙◌, arith, lt-ltb, le-ltb, ◌⊎◌, inl, inr}
 use Rattle.pb_wire.specs.Canonical.{groups, shortest}
+use Rattle.std.proofs.lemmas.Bool.{cases_lt}
 
 pub groups_last : (k n : ℕ) → n < 128 → groups k n ≡ n ∷ []
 unfolding groups
@@ -11,17 +12,10 @@ pub groups_step : (k n : ℕ) → 128 ≤ n → groups (suc k) n ≡ (n % 128 + 
 unfolding groups
 groups_step k n large = rw (le-ltb n 128 large, groups) refl
 
-pub less : (n : ℕ) → 128 ≤ n → n / 128 < n
-less n large = omega arith
-
--- a number is below another, or not
-below_or_not : (n m : ℕ) → (n < m) ⊎ (m ≤ n)
-below_or_not n m = grind arith
-
 pub groups_same : (k j n : ℕ) → n ≤ k → n ≤ j → groups k n ≡ groups j n
 groups_same zero j n a b = groups_last zero n (omega arith) ∙ sym (groups_last j n (omega arith))
 groups_same (suc k) zero n a b = groups_last (suc k) n (omega arith) ∙ sym (groups_last zero n (omega arith))
-groups_same (suc k) (suc j) n a b = elim (below_or_not n 128) [
+groups_same (suc k) (suc j) n a b = elim (cases_lt n 128) [
   | inl small ↦ groups_last (suc k) n small ∙ sym (groups_last (suc j) n small)
   | inr large ↦ groups_step k n large ∙ ap (λ (rest : List ℕ). (n % 128 + 128) ∷ rest) (groups_same k j (n / 128) (omega arith) (omega arith)) ∙ sym (groups_step j n large)
 ]

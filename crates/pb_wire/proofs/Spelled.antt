@@ -18,7 +18,7 @@ pub guard_ok : {A : Type 0} (b : Bool) (d : Cause) (r : Result A Cause) (y : A) 
 guard_ok true d r y e = absurd cc
 guard_ok false d r y e = (refl, e)
 
-chosen : {Z : Type 0} (b : Bool) (x y z : Z) → cond b x y ≡ z → ((b ≡ true) × (x ≡ z)) ⊎ ((b ≡ false) × (y ≡ z))
+pub chosen : {Z : Type 0} (b : Bool) (x y z : Z) → cond b x y ≡ z → ((b ≡ true) × (x ≡ z)) ⊎ ((b ≡ false) × (y ≡ z))
 chosen true x y z e = inl (refl, e)
 chosen false x y z e = inr (refl, e)
 

@@ -4,7 +4,7 @@ use Rattle.std.specs.List.{AllByRecursion}
 use Rattle.pb_wire.specs.Records.{Entry, Spells, SpellsNumber, kind_of, Records}
 use Rattle.pb_wire.specs.Cursor.{Placed, placed_at, next_at, some_of, start_before}
 use Rattle.pb_wire.specs.Walk.{placed, wire_fault, entries}
-use Rattle.pb_wire.specs.Canonical.{record_spelling, spelling, Fits}
+use Rattle.pb_wire.specs.Canonical.{record_spelling, spelling, IsSpellable}
 use Rattle.pb_wire.proofs.Spelled.{entry_again}
 use Rattle.pb_wire.proofs.Next.{next_some}
 use Rattle.pb_wire.proofs.Canonical.{entry_spells}
@@ -50,7 +50,7 @@ records_placed P end bytes (e ∷ es) h a =
     (a.0, records_placed P end h.1 es h.4 a.1)
 
 -- what is written is the joined spellings
-pub spelling_records : (es : List Entry) → AllByRecursion Fits es → Records (spelling es) es
+pub spelling_records : (es : List Entry) → AllByRecursion IsSpellable es → Records (spelling es) es
 unfolding spelling
 spelling_records [] h = refl
 spelling_records (e ∷ es) h = (record_spelling e, spelling es, entry_spells e h.0, refl, spelling_records es h.1)

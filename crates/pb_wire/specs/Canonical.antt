@@ -43,7 +43,7 @@ ContentFits (span bytes) = length bytes < 2 ^ 64
 ContentFits (fixed32 n) = n < 2 ^ 32
 
 -- a record that has a spelling
-pub record Fits (e : Entry) : Type 0 where
+pub record IsSpellable (e : Entry) : Type 0 where
   pub low : 0 < e.number
   pub high : e.number < 2 ^ 29
   pub content : ContentFits e.content

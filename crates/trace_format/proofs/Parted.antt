@@ -17,10 +17,6 @@ pub parted_none : (text : List ℕ) → NoSpace text → parted text ≡ (text, 
 parted_none [] h = refl
 parted_none (b ∷ bs) h = rw (ne_eqb b 32 h.0, parted_none bs h.1) refl
 
-no_space_more : (text : List ℕ) (b : ℕ) → NoSpace text → b ≢ 32 → NoSpace (text ++ b ∷ [])
-no_space_more [] b h n = (n, tt)
-no_space_more (x ∷ xs) b h n = (h.0, no_space_more xs b h.1 n)
-
 -- one byte further
 pub no_space_to : (text : List ℕ) (i : ℕ) → i < length text → NoSpace (take i text) → get_or text i 0 ≢ 32 → NoSpace (take (suc i) text)
 no_space_to [] i lt h n = absurd (omega arith)

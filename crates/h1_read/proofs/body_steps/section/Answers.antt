@@ -1,6 +1,6 @@
 use Rattle.std.proofs.Common.{sym, ◌∙◌, ap, subst, refl, []}
 use Rattle.std.specs.Prelude.{◌≡◌, ◌++◌, length}
-use Rattle.h1_read.specs.Remaining.{Gives}
+use Rattle.h1_read.specs.Remaining.{GivesContent}
 use Rattle.h1_read.specs.Remaining as rest
 use Rattle.http_model.specs.Reading.{BadChunk, LongHead}
 use Rattle.h1_read.proofs.StepLemmas.{section_ends, section_partial, section_bad, section_goes_on}
@@ -16,7 +16,7 @@ returns-in_ok-extend_from_slice-in-Partial-clause-steps c =
     let bytes = c.args.bytes.now in
     let exact = rw c.in-Partial.is at c.in_ok-trailers.ensures in
     let kept : c.extend_from_slice.new.self.items ≡ bytes = c.in_ok-extend_from_slice-in-Partial.ensures.items ∙ ap (λ l. l ++ bytes) c.new-begun.ensures.items in
-    (refl, subst (λ l. Gives (rest.Trailers []) bytes (length bytes) [] (rest.Trailers l)) (sym kept) (section_goes_on [] bytes), section_partial [] bytes exact)
+    (refl, subst (λ l. GivesContent (rest.Trailers []) bytes (length bytes) [] (rest.Trailers l)) (sym kept) (section_goes_on [] bytes), section_partial [] bytes exact)
 
 pub returns-in-Bad-clause-steps : goal.returns-in-Bad-clause-steps
 returns-in-Bad-clause-steps c = section_bad [] c.args.bytes.now BadChunk (rw c.in-Bad.is at c.in_ok-trailers.ensures)

@@ -1,7 +1,7 @@
 use Rattle.std.proofs.Common.{arith, subst, [], Err}
 use Rattle.h1_read.specs.Remaining as rest
 use Rattle.h1_read.proofs.StepLemmas.{starts_within, used_within, then_fed, then_steps}
-use Rattle.h1_read.specs.Stages.{rest_of, Steps}
+use Rattle.h1_read.specs.Stages.{rest_of, BodySteps}
 use Rattle.h1_read.proofs.body_steps.sized.Goals as goal
 
 pub behind-requires-clause-order : goal.behind-requires-clause-order
@@ -32,4 +32,4 @@ pub returns-in-Err-clause-steps : goal.returns-in-Err-clause-steps
 returns-in-Err-clause-steps c before some none =
     then_steps before (rest.Trailers []) c.args.bytes.now c.section.new.kept.items c.args.used c.in-Err.stop
     (none (omega (arith, c.if-size-gt0.false)))
-    (subst (λ l. Steps (rest.Trailers []) l c.section.new.kept.items (Err c.in-Err.stop)) c.split_at.ensures.back c.in-Err.ensures.steps)
+    (subst (λ l. BodySteps (rest.Trailers []) l c.section.new.kept.items (Err c.in-Err.stop)) c.split_at.ensures.back c.in-Err.ensures.steps)
