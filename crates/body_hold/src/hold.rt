@@ -44,7 +44,8 @@ impl Model for Hold {
 
     ghost Value = { Held };
 
-    ghost view = { λ h. record { limit = h.limit; answer = h.answer; hand = h.hand.bytes; lent = cut_by h.lengths.items h.lent.bytes; out = h.out.bytes } };
+    ghost view = { λ h. record { limit = h.limit; answer = h.answer; hand = h.hand.bytes;
+        lent = cut_by h.lengths.items h.lent.bytes; out = h.out.bytes } };
 
     ghost invariant = { λ h. IsReserved h.limit h.answer h.hand h.lent h.lengths h.out };
 }
@@ -91,7 +92,8 @@ impl Hold {
     /// The oldest lent piece comes back, and goes out as the change says.
     pub fn back(&mut self, change: Change)
         requires there { 0 < length self.old.lent }
-        requires fits { length self.old.out + length (new_piece change self.old.lent) ≤ out_room self.old.limit self.old.answer }
+        requires fits { length self.old.out + length (new_piece change self.old.lent)
+            ≤ out_room self.old.limit self.old.answer }
         ensures { self.new ≡ backed change self.old }
     {
         let n = self.lengths.remove(0);

@@ -15,8 +15,9 @@ use std::alloc::Global;
 /// The configuration that one JSON object in UTF-8 holds. Absent keys have their defaults, and of equal keys the last
 /// counts.
 ///
-/// `Json` comes where the bytes are no such object. Then the least unknown key, of all levels, is `Unknown`, and then the
-/// first key of the key table that is at fault is `Kind` or `Range`. `FULL_DUPLEX_STREAMED` isn't supported: `Range`.
+/// `Json` comes where the bytes are no such object. Then the least unknown key, of all levels, is `Unknown`, and then
+/// the first key of the key table that is at fault is `Kind` or `Range`. `FULL_DUPLEX_STREAMED` isn't supported:
+/// `Range`.
 pub fn read_config(alloc: Global, bytes: &[u8]) -> Result<Config, ConfigFault>
     ensures ok { IfOk result (λ config. configured bytes.now ≡ Ok config) }
     ensures valid { IfOk result (λ config. IsValid config) }

@@ -39,11 +39,16 @@ pub(crate) struct Limits {
 #[tactic(auto, unfolding(crate::specs::Configured::at_key, crate::specs::Keys::judge, crate::specs::Keys::judge_number), using(crate::proofs::Faults::fault_first, crate::proofs::Faults::fault_later, crate::proofs::Faults::none_later))]
 pub(crate) fn read_general(alloc: Global, config: &Value) -> Result<General, ConfigFault>
     ensures ok { IfOk result (λ _. first_fault general_keys (view config.now) ≡ None) }
-    ensures failure_allow { IfOk result (λ g. g.failure_allow ≡ truth_of (at_key Section.Top (codes "failure_mode_allow") (view config.now))) }
-    ensures timeout_ms { IfOk result (λ g. g.timeout_ms ≡ number_of (at_key Section.Top (codes "message_timeout_ms") (view config.now))) }
-    ensures max_timeout_ms { IfOk result (λ g. g.max_timeout_ms ≡ number_of (at_key Section.Top (codes "max_message_timeout_ms") (view config.now))) }
-    ensures allow_override { IfOk result (λ g. g.allow_override ≡ truth_of (at_key Section.Top (codes "allow_mode_override") (view config.now))) }
-    ensures no_immediate { IfOk result (λ g. g.no_immediate ≡ truth_of (at_key Section.Top (codes "disable_immediate_response") (view config.now))) }
+    ensures failure_allow { IfOk result (λ g. g.failure_allow ≡ truth_of
+        (at_key Section.Top (codes "failure_mode_allow") (view config.now))) }
+    ensures timeout_ms { IfOk result (λ g. g.timeout_ms ≡ number_of
+        (at_key Section.Top (codes "message_timeout_ms") (view config.now))) }
+    ensures max_timeout_ms { IfOk result (λ g. g.max_timeout_ms ≡ number_of
+        (at_key Section.Top (codes "max_message_timeout_ms") (view config.now))) }
+    ensures allow_override { IfOk result (λ g. g.allow_override ≡ truth_of
+        (at_key Section.Top (codes "allow_mode_override") (view config.now))) }
+    ensures no_immediate { IfOk result (λ g. g.no_immediate ≡ truth_of
+        (at_key Section.Top (codes "disable_immediate_response") (view config.now))) }
     ensures err { IfErr result (λ f. IsFault (first_fault general_keys (view config.now)) f) }
 {
     let _version = number(alloc, config, "version", 1, 1, 1)?;
@@ -122,10 +127,14 @@ pub(crate) fn read_rules(alloc: Global, config: &Value) -> Result<Rules, ConfigF
 #[tactic(auto, unfolding(crate::specs::Configured::at_key, crate::specs::Keys::judge, crate::specs::Keys::judge_number), using(crate::proofs::Faults::fault_first, crate::proofs::Faults::fault_later, crate::proofs::Faults::none_later))]
 pub(crate) fn read_limits(alloc: Global, config: &Value) -> Result<Limits, ConfigFault>
     ensures ok { IfOk result (λ _. first_fault limit_keys (view config.now) ≡ None) }
-    ensures buffer_limit { IfOk result (λ l. l.buffer_limit ≡ number_of (at_key Section.Top (codes "buffer_limit") (view config.now))) }
-    ensures answer_limit { IfOk result (λ l. l.answer_limit ≡ number_of (at_key Section.Top (codes "answer_limit") (view config.now))) }
-    ensures max_exchanges { IfOk result (λ l. l.max_exchanges ≡ number_of (at_key Section.Top (codes "max_exchanges") (view config.now))) }
-    ensures authority { IfOk result (λ l. l.authority ≡ text_of (at_key Section.Top (codes "authority") (view config.now))) }
+    ensures buffer_limit { IfOk result (λ l. l.buffer_limit ≡ number_of
+        (at_key Section.Top (codes "buffer_limit") (view config.now))) }
+    ensures answer_limit { IfOk result (λ l. l.answer_limit ≡ number_of
+        (at_key Section.Top (codes "answer_limit") (view config.now))) }
+    ensures max_exchanges { IfOk result (λ l. l.max_exchanges ≡ number_of
+        (at_key Section.Top (codes "max_exchanges") (view config.now))) }
+    ensures authority { IfOk result (λ l. l.authority ≡ text_of
+        (at_key Section.Top (codes "authority") (view config.now))) }
     ensures err { IfErr result (λ f. IsFault (first_fault limit_keys (view config.now)) f) }
 {
     let buffer_limit = number(alloc, config, "buffer_limit", 1, 1_048_576, 65_536)?;

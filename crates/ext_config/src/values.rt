@@ -16,8 +16,10 @@ use std::alloc::{AllocError, Global};
 // An object, or nothing.
 #[tactic(auto, unfolding(crate::specs::Keys::setting, crate::specs::Keys::fault_of, crate::specs::Keys::judge))]
 pub(crate) fn object(alloc: Global, config: &Value, name: &str) -> Result<(), ConfigFault>
-    ensures ok { IfOk result (λ _. fault_of (row Section.Top name.now Object (object no_members)) (view config.now) ≡ None) }
-    ensures err { IfErr result (λ f. IsFault (fault_of (row Section.Top name.now Object (object no_members)) (view config.now)) f) }
+    ensures ok { IfOk result (λ _. fault_of (row Section.Top name.now Object (object no_members)) (view config.now)
+        ≡ None) }
+    ensures err { IfErr result (λ f. IsFault (fault_of (row Section.Top name.now Object (object no_members))
+        (view config.now)) f) }
 {
     let Some(value) = found(config, Section::Top, name) else {
         return Ok(());
@@ -39,7 +41,8 @@ pub(crate) fn truth(
 ) -> Result<bool, ConfigFault>
     ensures ok { let r = row section name.now Truth (boolean false) in IfOk result (λ b.
         (fault_of r (view config.now) ≡ None) × (b ≡ truth_of (setting r (view config.now)))) }
-    ensures err { IfErr result (λ f. IsFault (fault_of (row section name.now Truth (boolean false)) (view config.now)) f) }
+    ensures err { IfErr result (λ f. IsFault (fault_of (row section name.now Truth (boolean false))
+        (view config.now)) f) }
 {
     let Some(value) = found(config, section, name) else {
         return Ok(false);
@@ -63,7 +66,8 @@ pub(crate) fn number(
     requires { judge (Number low high) (whole default) ≡ Fits }
     ensures ok { let r = row Section.Top name.now (Number low high) (whole default) in IfOk result (λ n.
         (fault_of r (view config.now) ≡ None) × (n ≡ number_of (setting r (view config.now)))) }
-    ensures err { IfErr result (λ f. IsFault (fault_of (row Section.Top name.now (Number low high) (whole default)) (view config.now)) f) }
+    ensures err { IfErr result (λ f. IsFault (fault_of (row Section.Top name.now (Number low high) (whole default))
+        (view config.now)) f) }
     ensures within { IfOk result (λ n. (low ≤ n) × (n ≤ high)) }
 {
     let Some(value) = found(config, Section::Top, name) else {
@@ -92,7 +96,8 @@ pub(crate) fn head_mode(
 ) -> Result<bool, ConfigFault>
     ensures ok { let r = row section name.now part_choice (text (codes "DEFAULT")) in IfOk result (λ b.
         (fault_of r (view config.now) ≡ None) × (b ≡ asks_head (setting r (view config.now)))) }
-    ensures err { IfErr result (λ f. IsFault (fault_of (row section name.now part_choice (text (codes "DEFAULT"))) (view config.now)) f) }
+    ensures err { IfErr result (λ f. IsFault (fault_of (row section name.now part_choice (text (codes "DEFAULT")))
+        (view config.now)) f) }
 {
     let Some(value) = found(config, section, name) else {
         return Ok(true);
@@ -118,7 +123,8 @@ pub(crate) fn trailer_mode(
 ) -> Result<bool, ConfigFault>
     ensures ok { let r = row section name.now part_choice (text (codes "DEFAULT")) in IfOk result (λ b.
         (fault_of r (view config.now) ≡ None) × (b ≡ asks_trailers (setting r (view config.now)))) }
-    ensures err { IfErr result (λ f. IsFault (fault_of (row section name.now part_choice (text (codes "DEFAULT"))) (view config.now)) f) }
+    ensures err { IfErr result (λ f. IsFault (fault_of (row section name.now part_choice (text (codes "DEFAULT")))
+        (view config.now)) f) }
 {
     let Some(value) = found(config, section, name) else {
         return Ok(false);
@@ -144,7 +150,8 @@ pub(crate) fn body_mode(
 ) -> Result<BodyMode, ConfigFault>
     ensures ok { let r = row section name.now body_choice (text (codes "NONE")) in IfOk result (λ m.
         (fault_of r (view config.now) ≡ None) × (m ≡ body_mode (setting r (view config.now)))) }
-    ensures err { IfErr result (λ f. IsFault (fault_of (row section name.now body_choice (text (codes "NONE"))) (view config.now)) f) }
+    ensures err { IfErr result (λ f. IsFault (fault_of (row section name.now body_choice (text (codes "NONE")))
+        (view config.now)) f) }
 {
     let Some(value) = found(config, section, name) else {
         return Ok(BodyMode::NoAsk);
@@ -166,7 +173,8 @@ pub(crate) fn body_mode(
 pub(crate) fn authority(alloc: Global, config: &Value, name: &str) -> Result<Blob, ConfigFault>
     ensures ok { let r = row Section.Top name.now Authority (text (codes "localhost")) in IfOk result (λ t.
         (fault_of r (view config.now) ≡ None) × (t ≡ text_of (setting r (view config.now)))) }
-    ensures err { IfErr result (λ f. IsFault (fault_of (row Section.Top name.now Authority (text (codes "localhost"))) (view config.now)) f) }
+    ensures err { IfErr result (λ f. IsFault (fault_of
+        (row Section.Top name.now Authority (text (codes "localhost"))) (view config.now)) f) }
 {
     let Some(value) = found(config, Section::Top, name) else {
         let authority = Blob::of(alloc, b"localhost")?;
@@ -210,7 +218,8 @@ pub(crate) fn prefixes(
 ) -> Result<NameList, ConfigFault>
     ensures ok { let r = row section name.now Prefixes (array no_items) in IfOk result (λ names.
         (fault_of r (view config.now) ≡ None) × (names ≡ texts_of (setting r (view config.now)))) }
-    ensures err { IfErr result (λ f. IsFault (fault_of (row section name.now Prefixes (array no_items)) (view config.now)) f) }
+    ensures err { IfErr result (λ f. IsFault (fault_of (row section name.now Prefixes (array no_items))
+        (view config.now)) f) }
 {
     let Some(value) = found(config, section, name) else {
         return Ok(NameList::new(alloc));

@@ -19,10 +19,12 @@ pub fn written_ask_is_read()
 
 /// An answer that was read from fewer than 2^30 bytes can be written.
 pub fn read_answer_is_writable()
-    ensures { (bytes : List ℕ) (a : Answer) → All (λ b. b < 256) bytes → length bytes < 2 ^ 30 → answer_of bytes ≡ Ok a → IsWritableAnswer a }
+    ensures { (bytes : List ℕ) (a : Answer) → All (λ b. b < 256) bytes → length bytes < 2 ^ 30
+        → answer_of bytes ≡ Ok a → IsWritableAnswer a }
 {}
 
 /// An ask that was read from fewer than 2^30 bytes can be written.
 pub fn read_ask_is_writable()
-    ensures { (bytes : List ℕ) (a : Ask) → All (λ b. b < 256) bytes → length bytes < 2 ^ 30 → ask_of bytes ≡ Ok a → IsWritableAsk a }
+    ensures { (bytes : List ℕ) (a : Ask) → All (λ b. b < 256) bytes → length bytes < 2 ^ 30 → ask_of bytes ≡ Ok a
+        → IsWritableAsk a }
 {}

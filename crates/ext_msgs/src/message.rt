@@ -59,7 +59,8 @@ pub fn read<M: Message + Drop>(
 ) -> Result<M, MsgFault>
     requires short { length bytes.now < 2 ^ 32 }
     requires inside { start + len ≤ length bytes.now }
-    ensures { Reads M.fault (fold M.add M.start (entries (part bytes.now start len))) (start + len) (part bytes.now start len) result }
+    ensures { Reads M.fault (fold M.add M.start (entries (part bytes.now start len))) (start + len)
+        (part bytes.now start len) result }
 {
     let mut message = M::empty(alloc);
     fill(&mut message, alloc, bytes, start, len)?;

@@ -11,9 +11,9 @@ use crate::fault::MsgFault;
 use crate::message::read;
 use std::alloc::Global;
 
-/// Reads a `ProcessingResponse`. Fields come in any order, unknown ones are skipped, the last value of a field counts,
-/// and the occurrences of an embedded message are joined (protobuf.dev, "Encoding"). The first fault in the order of the
-/// records, depth first, is the answer; that no member is set comes last.
+/// Reads a `ProcessingResponse`. Fields come in any order, unknown ones are skipped, the last value of a field
+/// counts, and the occurrences of an embedded message are joined (protobuf.dev, "Encoding"). The first fault in the
+/// order of the records, depth first, is the answer; that no member is set comes last.
 pub fn read_answer(alloc: Global, bytes: &[u8]) -> Result<Answer, MsgFault>
     requires { length bytes.now < 2 ^ 32 }
     ensures { IsRead result (answer_of bytes.now) }

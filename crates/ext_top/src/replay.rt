@@ -32,7 +32,8 @@ fn at_end(stage: &Stage) -> bool
 
 /// Plays a trace from a source, and writes its transcript to a sink.
 pub(crate) fn replay<S: Source, K: Sink>(alloc: Global, source: &mut S, sink: &mut K) -> Status
-    ensures outcome { EndsReplay result (S.left source.old) (S.left source.new) (K.written sink.old) (K.written sink.new) }
+    ensures outcome { EndsReplay result (S.left source.old) (S.left source.new) (K.written sink.old)
+        (K.written sink.new) }
     ensures usage { result ≢ Status.Usage }
     ensures read { result ≡ Status.ReadFault → Rose (S.faults source.old) (S.faults source.new) }
     ensures write { result ≡ Status.WriteFault → Rose (K.faults sink.old) (K.faults sink.new) }

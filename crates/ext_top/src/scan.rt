@@ -5,7 +5,8 @@ ghost use Rattle.ext_top.specs.Scan.{stripped};
 
 // What follows a text at the front, where it stands there.
 fn strip_front<'a>(bytes: &'a [u8], text: &[u8]) -> Option<&'a [u8]>
-    ensures { MatchOption result ((rest : List ℕ) → bytes.now ≡ text.now ++ rest → ⊥) (λ rest. bytes.now ≡ text.now ++ rest.now) }
+    ensures { MatchOption result ((rest : List ℕ) → bytes.now ≡ text.now ++ rest
+        → ⊥) (λ rest. bytes.now ≡ text.now ++ rest.now) }
 {
     bytes.strip_prefix(text)
 }

@@ -111,16 +111,18 @@ fn shown_line(alloc: Global, kind: Kind, bytes: &Blob) -> Result<Vec<u8>, AllocE
     Ok(text)
 }
 
-/// Reads one line of hexadecimal digits, and writes what they are. A message is `canonical` and its canonical spelling, or
-/// `refused` with the fault's name and the place of the record that has it. Frames are a line `frame TYPE FLAGS STREAM
-/// LENGTH` each, and then `rest` with the number of bytes that are left, or `refused` with the code of the first fault.
+/// Reads one line of hexadecimal digits, and writes what they are. A message is `canonical` and its canonical
+/// spelling, or `refused` with the fault's name and the place of the record that has it. Frames are a line `frame
+/// TYPE FLAGS STREAM LENGTH` each, and then `rest` with the number of bytes that are left, or `refused` with the code
+/// of the first fault.
 pub(crate) fn show<S: Source, K: Sink>(
     alloc: Global,
     kind: Kind,
     source: &mut S,
     sink: &mut K,
 ) -> Status
-    ensures outcome { Shows kind result (S.left source.old) (S.left source.new) (K.written sink.old) (K.written sink.new) }
+    ensures outcome { Shows kind result (S.left source.old) (S.left source.new) (K.written sink.old)
+        (K.written sink.new) }
     ensures read { result ≡ Status.ReadFault → Rose (S.faults source.old) (S.faults source.new) }
     ensures write { result ≡ Status.WriteFault → Rose (K.faults sink.old) (K.faults sink.new) }
 {

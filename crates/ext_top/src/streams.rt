@@ -17,7 +17,8 @@ pub(crate) enum Stop {
 
 // The next byte, or none at the end.
 fn read_byte<S: Source>(source: &mut S) -> Result<Option<u8>, Failed>
-    ensures byte { IfOk result (λ o. MatchOption o (Keeps (S.left source.old) (S.left source.new) × IsAtEnd (S.left source.new)) (λ b. Consumes (S.left source.old) (S.left source.new) (b ∷ []))) }
+    ensures byte { IfOk result (λ o. MatchOption o (Keeps (S.left source.old) (S.left source.new)
+        × IsAtEnd (S.left source.new)) (λ b. Consumes (S.left source.old) (S.left source.new) (b ∷ []))) }
     ensures kept { OnErr result (Keeps (S.left source.old) (S.left source.new)) }
     ensures cause { HasCause (S.faults source.old) (S.faults source.new) result }
 {
@@ -32,13 +33,15 @@ fn read_byte<S: Source>(source: &mut S) -> Result<Option<u8>, Failed>
 /// The greatest length of a line in bytes, with its line feed.
 pub(crate) const LINE_LIMIT: usize = 4_259_841;
 
-/// The next line, without its line feed, or none where the source ends before one or it has more bytes than `most` with its line feed.
+/// The next line, without its line feed, or none where the source ends before one or it has more bytes than `most`
+/// with its line feed.
 pub(crate) fn read_line<S: Source>(
     alloc: Global,
     source: &mut S,
     most: usize,
 ) -> Result<Option<Vec<u8>>, Stop>
-    ensures line { IfOk result (λ o. MatchOption o (ReadsNone most (S.left source.old) (S.left source.new)) (λ line. ReadsLine most (S.left source.old) (S.left source.new) line.items)) }
+    ensures line { IfOk result (λ o. MatchOption o (ReadsNone most (S.left source.old) (S.left source.new))
+        (λ line. ReadsLine most (S.left source.old) (S.left source.new) line.items)) }
     ensures some { OnErr result (ReadsSome (S.left source.old) (S.left source.new)) }
     ensures later { S.faults source.old ≤ S.faults source.new }
     ensures cause { IsErrOf result Stop.Read → Rose (S.faults source.old) (S.faults source.new) }

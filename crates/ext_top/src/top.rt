@@ -20,7 +20,8 @@ pub fn run<S: Source, K: Sink>(
     source: &mut S,
     sink: &mut K,
 ) -> Status
-    ensures outcome { RunsAs (command_of (map (λ w. w.now) words.now)) result (S.left source.old) (S.left source.new) (K.written sink.old) (K.written sink.new) }
+    ensures outcome { RunsAs (command_of (map (λ w. w.now) words.now)) result (S.left source.old)
+        (S.left source.new) (K.written sink.old) (K.written sink.new) }
     ensures usage { result ≡ Status.Usage → IsBuilt (command_of (map (λ w. w.now) words.now)) → ⊥ }
     ensures read { result ≡ Status.ReadFault → Rose (S.faults source.old) (S.faults source.new) }
     ensures write { result ≡ Status.WriteFault → Rose (K.faults sink.old) (K.faults sink.new) }

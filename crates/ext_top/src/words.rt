@@ -8,8 +8,8 @@
 //! | `proxy LISTEN UPSTREAM PROCESSOR COUNT` | serves as proxy |
 //! | `processor LISTEN COUNT` | serves as processor |
 //!
-//! An address is `127.0.0.1:PORT` or `localhost:PORT`, PORT being from 1 to 65,535. NUMBER is below 2^64, and COUNT from 1
-//! to 100,000. Numbers are decimal, without sign or leading zero.
+//! An address is `127.0.0.1:PORT` or `localhost:PORT`, PORT being from 1 to 65,535. NUMBER is below 2^64, and COUNT
+//! from 1 to 100,000. Numbers are decimal, without sign or leading zero.
 
 /// A port of this machine, given by its number or by its name.
 #[derive(Clone, Copy, Debug)]

@@ -41,11 +41,12 @@ pub fn headline()
     ensures { Headline }
 {}
 
-/// What each entry leaves standing: asks that were made, and an end; a `Sent` counts for one ask; and a loss that leaves an
-/// exchange alive came behind everything, or to a side that was whole and done.
+/// What each entry leaves standing: asks that were made, and an end; a `Sent` counts for one ask; and a loss that
+/// leaves an exchange alive came behind everything, or to a side that was whole and done.
 pub fn each_step()
     ensures asks { (c : FilterConfig) (e : ViewEntry) (a : ExchangeAccount) → IsPrefix a.made (step c e a).made }
-    ensures fate { (c : FilterConfig) (e : ViewEntry) (a : ExchangeAccount) → is_live a.fate ≡ false → (step c e a).fate ≡ a.fate }
+    ensures fate { (c : FilterConfig) (e : ViewEntry) (a : ExchangeAccount) → is_live a.fate ≡ false
+        → (step c e a).fate ≡ a.fate }
     ensures sent { (c : FilterConfig) (e : ViewEntry) (a : ExchangeAccount) →
         (a.sent ≤ (step c e a).sent) × ((step c e a).sent ≤ a.sent + 1) }
     ensures loss { (c : FilterConfig) (s : Side) (how : Loss) (a : ExchangeAccount) → is_live a.fate ≡ true →

@@ -110,7 +110,8 @@ pub fn one_piece(
     push_number(alloc, told, "held", reader.held())
 }
 
-// Tells the frames of bytes that come in pieces of this length, and where one is refused, how many bytes had come by then.
+// Tells the frames of bytes that come in pieces of this length, and where one is refused, how many bytes had come by
+// then.
 fn in_pieces(alloc: Global, told: &mut String, bytes: &[u8], len: usize) -> Result<Option<u64>> {
     let mut reader = FrameReader::new(alloc)?;
     let mut come = 0u64;

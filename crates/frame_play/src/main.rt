@@ -1,4 +1,5 @@
-//! Plays what HTTP/2 is spelled with by a script: HPACK's integers and Huffman strings, header blocks, and frames. A line is one of
+//! Plays what HTTP/2 is spelled with by a script: HPACK's integers and Huffman strings, header blocks, and frames. A
+//! line is one of
 //!
 //! | line | does |
 //! |---|---|
@@ -19,8 +20,8 @@
 //! | `feed BYTES` | that reader gets the bytes as one piece: the same, and how many bytes it keeps |
 //! | `# ..` | a heading |
 //!
-//! Bytes are words of hexadecimal digits, each of which may be repeated, as `00*3`; `00*0` is none. Fields are `NAME=VALUE`, with a value in hexadecimal digits
-//! behind `%`.
+//! Bytes are words of hexadecimal digits, each of which may be repeated, as `00*3`; `00*0` is none. Fields are
+//! `NAME=VALUE`, with a value in hexadecimal digits behind `%`.
 #![tactic(auto)]
 
 mod blocks;

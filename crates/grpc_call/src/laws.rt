@@ -18,30 +18,35 @@ pub fn reader_begins()
 /// After a block a reader stands for its stream with this block, and what it answers is what the stream brought by it.
 pub fn heads_are_told()
     ensures { (r : Response) (events : List Event) (id : ℕ) (fields : List Field) (last : Bool) → StandsFor r events
-        → HeadTold r events (event.Head id fields last) (told_by (block_in r fields last)) (headed_by (block_in r fields last) r) }
+        → HeadTold r events (event.Head id fields last) (told_by (block_in r fields last))
+        (headed_by (block_in r fields last) r) }
 {}
 
-/// After DATA a reader stands for its stream with the bytes that it used, and what it answers is what the stream brought
-/// by them.
+/// After DATA a reader stands for its stream with the bytes that it used, and what it answers is what the stream
+/// brought by them.
 pub fn data_is_told()
-    ensures { (r new : Response) (events : List Event) (id : ℕ) (bytes : List ℕ) (last : Bool) (result : Result (Option (List ℕ × ℕ)) CallFault)
+    ensures { (r new : Response) (events : List Event) (id : ℕ) (bytes : List ℕ) (last : Bool)
+        (result : Result (Option (List ℕ × ℕ)) CallFault)
         → StandsFor r events → ReadsData r bytes last result new → DataTold r events id bytes last result new }
 {}
 
 /// However DATA is cut, a stream brings the same.
 pub fn cut_data_is_joined()
     ensures { (events : List Event) (id : ℕ) (xs ys : List ℕ) (last : Bool)
-        → heard (event.Data id ys last ∷ event.Data id xs false ∷ events) ≡ heard (event.Data id (xs ++ ys) last ∷ events) }
+        → heard (event.Data id ys last ∷ event.Data id xs false ∷ events) ≡ heard
+        (event.Data id (xs ++ ys) last ∷ events) }
 {}
 
 /// A reset closes a stream that goes on, and nothing follows a message that is too long or a closing.
 pub fn ends_are_told()
     ensures reset { (r : Response) (events : List Event) (id code : ℕ) → StandsFor r events
         → items r.limit (event.Reset id code ∷ events) ≡ items r.limit events ++ (Closed false ∷ []) }
-    ensures over { (limit : ℕ) (events : List Event) (e : Event) → IsOver limit events → items limit (e ∷ events) ≡ items limit events }
+    ensures over { (limit : ℕ) (events : List Event) (e : Event) → IsOver limit events
+        → items limit (e ∷ events) ≡ items limit events }
 {}
 
 /// What is written for a message is read back, whatever comes behind it.
 pub fn written_message_is_read()
-    ensures { (limit : ℕ) (message more : List ℕ) → length message ≤ limit → length message < 2 ^ 32 → first limit (framed_message message ++ more) ≡ Whole message }
+    ensures { (limit : ℕ) (message more : List ℕ) → length message ≤ limit → length message < 2 ^ 32
+        → first limit (framed_message message ++ more) ≡ Whole message }
 {}

@@ -10,7 +10,8 @@ use std::str;
 
 /// The value of the first field of a name.
 pub(crate) fn first_value<'a>(fields: &'a FieldList, name: &[u8]) -> Option<&'a [u8]>
-    ensures { MatchOption result (first_value name.now fields.now ≡ None) (λ v. first_value name.now fields.now ≡ Some v.now) }
+    ensures { MatchOption result (first_value name.now fields.now ≡ None)
+        (λ v. first_value name.now fields.now ≡ Some v.now) }
 {
     for field in fields.as_slice() {
         if field.name.bytes() == name {

@@ -54,9 +54,9 @@ impl BodyReader {
         })
     }
 
-    /// What these bytes, which stand behind those before, give: one piece of the body or its end, and how many of them were used
-    /// for it. Bytes that weren't used are fed again. Behind the end every call gives it again, without trailers; behind a
-    /// fault every call answers that fault; out of memory leaves the reader as it was.
+    /// What these bytes, which stand behind those before, give: one piece of the body or its end, and how many of
+    /// them were used for it. Bytes that weren't used are fed again. Behind the end every call gives it again,
+    /// without trailers; behind a fault every call answers that fault; out of memory leaves the reader as it was.
     pub fn feed(&mut self, bytes: &[u8]) -> Result<(Piece, u32), H1Fault>
         requires { length bytes.now < 2 ^ 32 }
         ensures { Continues self.old bytes.now self.new result }

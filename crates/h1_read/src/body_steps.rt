@@ -195,7 +195,8 @@ fn sized(
 ) -> Result<Fed, Stop>
     requires inside { used ≤ length bytes.now }
     requires short { length bytes.now < 2 ^ 32 }
-    ensures steps { (before : Rest) → (0 < size → GivesContent before bytes.now used [] (rest.Chunk size)) → (size ≡ 0 → GivesContent before bytes.now used [] (rest.Trailers []))
+    ensures steps { (before : Rest) → (0 < size → GivesContent before bytes.now used [] (rest.Chunk size))
+        → (size ≡ 0 → GivesContent before bytes.now used [] (rest.Trailers []))
         → BodySteps before bytes.now kept.new.items result }
     ensures begun { KeepsBegun result kept.new.items }
     ensures memory { OnMemory result (kept.new.items ≡ kept.old.items) }
@@ -239,7 +240,8 @@ pub(crate) fn chunk(alloc: Global, kept: &mut Vec<u8>, left: u64, bytes: &[u8]) 
 fn next_line(alloc: Global, kept: &mut Vec<u8>, at: usize, bytes: &[u8]) -> Result<Fed, Stop>
     requires inside { at ≤ length bytes.now }
     requires short { length bytes.now < 2 ^ 32 }
-    ensures steps { (before : Rest) → GivesContent before bytes.now at [] (rest.Line []) → BodySteps before bytes.now kept.new.items result }
+    ensures steps { (before : Rest) → GivesContent before bytes.now at [] (rest.Line [])
+        → BodySteps before bytes.now kept.new.items result }
     ensures begun { KeepsBegun result kept.new.items }
 {
     kept.clear();

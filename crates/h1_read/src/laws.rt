@@ -34,15 +34,21 @@ pub fn heads_go_on()
 
 /// The lines of chunks that are read are those of `httparse`'s grammar, with its sizes.
 pub fn chunk_line_grammar()
-    ensures found { (bytes : List ℕ) (l : ChunkLine) (rest : List ℕ) → ReadsChunkLine bytes l rest → chunk_line_at bytes (line bytes) ≡ Whole (chunk_size l) rest }
-    ensures whole { (bytes : List ℕ) (size : ℕ) (rest : List ℕ) → chunk_line_at bytes (line bytes) ≡ Whole size rest → (l : ChunkLine) × ReadsChunkLine bytes l rest }
-    ensures partial { (bytes : List ℕ) → chunk_line_at bytes (line bytes) ≡ Partial → (more : List ℕ) × (l : ChunkLine) × ReadsChunkLine (bytes ++ more) l [] }
+    ensures found { (bytes : List ℕ) (l : ChunkLine) (rest : List ℕ) → ReadsChunkLine bytes l rest
+        → chunk_line_at bytes (line bytes) ≡ Whole (chunk_size l) rest }
+    ensures whole { (bytes : List ℕ) (size : ℕ) (rest : List ℕ) → chunk_line_at bytes (line bytes) ≡ Whole size rest
+        → (l : ChunkLine) × ReadsChunkLine bytes l rest }
+    ensures partial { (bytes : List ℕ) → chunk_line_at bytes (line bytes) ≡ Partial → (more : List ℕ)
+        × (l : ChunkLine) × ReadsChunkLine (bytes ++ more) l [] }
 {}
 
-/// A message that was written is read back: where a reader takes it whole, it gives the head, the length, the body and the
-/// trailers as they were written, with `http` for the scheme, the length last among the fields, and no blanks around values;
-/// and it takes it whole, within its limits.
+/// A message that was written is read back: where a reader takes it whole, it gives the head, the length, the body
+/// and the trailers as they were written, with `http` for the scheme, the length last among the fields, and no blanks
+/// around values; and it takes it whole, within its limits.
 pub fn written_message_is_read()
-    ensures given { (d : Direction) (to_head : Bool) (m : Message) (ended : Bool) → IsWritten d to_head m → (reads d to_head (message_bytes d m) ended).whole ≡ true → reads d to_head (message_bytes d m) ended ≡ given_message d to_head m ended }
-    ensures accepted { (d : Direction) (to_head : Bool) (m : Message) (ended : Bool) → IsWritten d to_head m → IsAccepted d m → reads d to_head (message_bytes d m) ended ≡ given_message d to_head m ended }
+    ensures given { (d : Direction) (to_head : Bool) (m : Message) (ended : Bool) → IsWritten d to_head m
+        → (reads d to_head (message_bytes d m) ended).whole ≡ true
+        → reads d to_head (message_bytes d m) ended ≡ given_message d to_head m ended }
+    ensures accepted { (d : Direction) (to_head : Bool) (m : Message) (ended : Bool) → IsWritten d to_head m
+        → IsAccepted d m → reads d to_head (message_bytes d m) ended ≡ given_message d to_head m ended }
 {}

@@ -99,9 +99,9 @@ impl HeadReader {
         })
     }
 
-    /// Takes the next piece. The answer is the head with the number of the piece's bytes up to its end, or `None`, where
-    /// the whole piece was taken. Interim responses come off the front. A head and a fault leave the reader as it was, so
-    /// that the same piece has the same answer again.
+    /// Takes the next piece. The answer is the head with the number of the piece's bytes up to its end, or `None`,
+    /// where the whole piece was taken. Interim responses come off the front. A head and a fault leave the reader as
+    /// it was, so that the same piece has the same answer again.
     pub fn feed(&mut self, bytes: &[u8]) -> Result<Option<(Message, u32)>, H1Fault>
         requires { length bytes.now < 2 ^ 32 }
         ensures fed { IsFed self.old bytes.now self.new result }

@@ -32,7 +32,8 @@ impl Model for End {
 // Opens a stream.
 fn open(client: &mut Session) -> Result<u32>
     requires { Stands client.old (λ r h. (r.client ≡ true) × (length (kept_streams (now r h)) < r.streams)) }
-    ensures opens { (r : Role) (h : List Call) → StandsFor r client.old h → OnOk result (StandsFor r client.new (Open ∷ h)) }
+    ensures opens { (r : Role) (h : List Call) → StandsFor r client.old h
+        → OnOk result (StandsFor r client.new (Open ∷ h)) }
 {
     match client.open() {
         Ok(id) => Ok(id),

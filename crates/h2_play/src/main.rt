@@ -1,4 +1,5 @@
-//! Plays sessions of HTTP/2 by a script: what the bytes of a peer bring, what goes out for them, and what calls answer. A line is one of
+//! Plays sessions of HTTP/2 by a script: what the bytes of a peer bring, what goes out for them, and what calls
+//! answer. A line is one of
 //!
 //! | line | does |
 //! |---|---|

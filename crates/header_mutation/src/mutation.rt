@@ -13,9 +13,9 @@ use std::alloc::{AllocError, Global};
 
 /// The head, or the trailers, under a mutation.
 ///
-/// The least invalid item makes the answer malformed: `Bad`. With `disallow_is_error` the least forbidden item refuses
-/// the mutation: `Disallowed`. Else the allowed removals are applied, and then the allowed settings, in their order. Each
-/// item is judged by the head as it came. Nothing of the head is changed.
+/// The least invalid item makes the answer malformed: `Bad`. With `disallow_is_error` the least forbidden item
+/// refuses the mutation: `Disallowed`. Else the allowed removals are applied, and then the allowed settings, in their
+/// order. Each item is judged by the head as it came. Nothing of the head is changed.
 pub fn apply(
     alloc: Global,
     rules: &Rules,
@@ -42,9 +42,11 @@ pub fn judge(
     head: &FieldList,
     mutation: &HeaderMutation,
 ) -> Result<(), MutFault>
-    ensures ok { OnOk result (mutated rules.now part head.now mutation.now ≡ Fields (applied rules.now head.now (items part mutation.now))) }
+    ensures ok { OnOk result (mutated rules.now part head.now mutation.now ≡ Fields
+        (applied rules.now head.now (items part mutation.now))) }
     ensures err { IfErr result (λ fault. IsFaultOf (mutated rules.now part head.now mutation.now) fault) }
-    ensures memory { IfErr result (λ fault. fault ≡ MutFault.Memory → 2 ^ 32 ≤ length mutation.now.remove + length mutation.now.set) }
+    ensures memory { IfErr result (λ fault. fault ≡ MutFault.Memory
+        → 2 ^ 32 ≤ length mutation.now.remove + length mutation.now.set) }
 {
     let Some(count) = item_count(mutation) else {
         return Err(MutFault::Memory);

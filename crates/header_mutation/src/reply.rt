@@ -15,8 +15,8 @@ use std::alloc::{AllocError, Global};
 
 /// The head of an immediate response: `:status` with the digits given, and then the fields that its mutation sets.
 ///
-/// An invalid item, removals among them, makes the answer malformed: `Bad`, and never `Disallowed`. Removals, owned names
-/// and names that begin with `:` have no effect.
+/// An invalid item, removals among them, makes the answer malformed: `Bad`, and never `Disallowed`. Removals, owned
+/// names and names that begin with `:` have no effect.
 #[tactic(auto, unfolding(crate::specs::Mutated::replied))]
 pub fn reply_head(
     alloc: Global,
@@ -56,7 +56,8 @@ fn settings(
     count: u32,
 ) -> Result<FieldList, AllocError>
     requires { count ≡ length mutation.now.remove + length mutation.now.set }
-    ensures { IfOk result (λ after. after ≡ fold changed fields (filter is_of_reply (items ResponseHead mutation.now))) }
+    ensures { IfOk result (λ after. after ≡ fold changed fields
+        (filter is_of_reply (items ResponseHead mutation.now))) }
 {
     let mut after = fields;
     for place in 0..count {

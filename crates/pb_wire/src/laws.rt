@@ -17,15 +17,19 @@ pub fn parts_of_bytes()
 
 /// Bytes have one list of records at most.
 pub fn one_list_of_records()
-    ensures { (end : ℕ) (bytes : List ℕ) (es : List Entry) → Records bytes es → (entries bytes ≡ es) × (wire_fault end bytes ≡ None) }
+    ensures { (end : ℕ) (bytes : List ℕ) (es : List Entry) → Records bytes es → (entries bytes ≡ es)
+        × (wire_fault end bytes ≡ None) }
 {}
 
 /// A fault behind records is the one that is found, and nothing but these records is found before it.
 pub fn one_first_fault()
-    ensures { (end : ℕ) (front rest : List ℕ) (es : List Entry) (cause : Cause) → Records front es → 0 < length rest → FirstFault rest cause → (entries (front ++ rest) ≡ es) × (wire_fault end (front ++ rest) ≡ Some (fault_at (end - length rest) cause)) }
+    ensures { (end : ℕ) (front rest : List ℕ) (es : List Entry) (cause : Cause) → Records front es → 0 < length rest
+        → FirstFault rest cause → (entries (front ++ rest) ≡ es)
+        × (wire_fault end (front ++ rest) ≡ Some (fault_at (end - length rest) cause)) }
 {}
 
 /// A reader that gave a fault gives the same fault at its next call.
 pub fn fault_stays()
-    ensures { (first second third : Cursor) (fault : WireFault) (result : Result (Option Record) WireFault) → Nexts first second (Err fault) → Nexts second third result → result ≡ Err fault }
+    ensures { (first second third : Cursor) (fault : WireFault) (result : Result (Option Record) WireFault)
+        → Nexts first second (Err fault) → Nexts second third result → result ≡ Err fault }
 {}

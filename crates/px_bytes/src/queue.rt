@@ -12,8 +12,9 @@ pub struct Full;
 
 /// A first in, first out queue of bytes, of which it holds no more than its limit.
 ///
-/// Only the constructor takes memory. Each byte is moved a bounded number of times, also where the front is dropped byte by
-/// byte: the room is for twice the limit, so the bytes are moved to the room's beginning only after as many were dropped.
+/// Only the constructor takes memory. Each byte is moved a bounded number of times, also where the front is dropped
+/// byte by byte: the room is for twice the limit, so the bytes are moved to the room's beginning only after as many
+/// were dropped.
 #[derive(Drop)]
 pub struct ByteQueue {
     items: Vec<u8>,

@@ -1,4 +1,5 @@
-//! Plays queues, holds, sources and sinks by a script. A line names what is made, and behind commas what is done with it:
+//! Plays queues, holds, sources and sinks by a script. A line names what is made, and behind commas what is done with
+//! it:
 //!
 //! | line | does |
 //! |---|---|
@@ -8,8 +9,8 @@
 //! | `source TEXT FAILING`, `sure-source TEXT` | `read SIZE`, all into the same buffer |
 //! | `sink ROOM FAILING`, `sure-sink ROOM` | `write TEXT` |
 //!
-//! `FAILING` is the number of the call that fails, from 0. Each line ends with what is left. Any other line is a heading,
-//! and is written as it stands.
+//! `FAILING` is the number of the call that fails, from 0. Each line ends with what is left. Any other line is a
+//! heading, and is written as it stands.
 #![tactic(auto)]
 
 mod edge;

@@ -1,8 +1,8 @@
 //! The lines of traces, which `replay` reads, and of transcripts, which it writes.
 //!
-//! A trace is a list of lines, each ended by one line feed. One space stands between words. A number is decimal, without
-//! sign or leading zero; bytes are an even number, not 0, of hexadecimal digits of either case, and are written in lower
-//! case.
+//! A trace is a list of lines, each ended by one line feed. One space stands between words. A number is decimal,
+//! without sign or leading zero; bytes are an even number, not 0, of hexadecimal digits of either case, and are
+//! written in lower case.
 //!
 //! | line of a trace | what happens |
 //! |---|---|

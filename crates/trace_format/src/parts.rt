@@ -25,7 +25,8 @@ pub fn parted(text: &[u8]) -> (&[u8], Option<&[u8]>)
 
 // What `hex` decodes, where it does.
 fn decoded(alloc: Global, digits: &[u8]) -> Result<Option<Vec<u8>>, AllocError>
-    ensures { IfOk result (λ o. MatchOption o ((bytes : List ℕ) → decode_of digits.now ≡ Ok bytes → ⊥) (λ v. decode_of digits.now ≡ Ok v.items)) }
+    ensures { IfOk result (λ o. MatchOption o ((bytes : List ℕ) → decode_of digits.now ≡ Ok bytes
+        → ⊥) (λ v. decode_of digits.now ≡ Ok v.items)) }
 {
     match hex::decode(alloc, digits) {
         Ok(bytes) => Ok(Some(bytes)),
