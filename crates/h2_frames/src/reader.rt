@@ -183,8 +183,8 @@ impl FrameReader {
         Ok(FrameReader { kept })
     }
 
-    /// The next frame, if the bytes so far have a whole one. It answers the code of the first fault as soon as the bytes
-    /// tell it, and then the same again. A refusal leaves the reader as it was.
+    /// The next frame, if the bytes so far have a whole one. It answers the code of the first fault as soon as the
+    /// bytes tell it, and then the same again. A refusal leaves the reader as it was.
     pub fn feed(&mut self, bytes: &[u8]) -> Result<Step, FrameFault>
         requires { length bytes.now < 2 ^ 32 }
         ensures { Feeds self.old bytes.now result self.new }
