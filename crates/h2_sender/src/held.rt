@@ -17,7 +17,7 @@ use h2_frames::Frame;
 use std::marker::Model;
 
 /// A frame that is held until its stream's head comes.
-#[derive(Debug, Drop)]
+#[derive(Drop)]
 pub(crate) struct Held {
     /// It is owed for a frame that came, and wasn't handed over.
     pub(crate) owed: bool,

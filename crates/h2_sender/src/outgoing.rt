@@ -17,7 +17,7 @@ use h2_frames::{Frame, copy_into};
 use std::marker::Model;
 
 /// A frame of which bytes wait.
-#[derive(Debug, Drop)]
+#[derive(Drop)]
 pub(crate) struct Outgoing {
     frame: Frame,
     // Whether the preface stands before it.

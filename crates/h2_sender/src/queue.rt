@@ -20,7 +20,7 @@ use std::collections::VecDeque;
 use std::marker::Model;
 
 /// What a call of `take` gave: how many bytes, and the frame whose last byte was among them.
-#[derive(Debug, Drop)]
+#[derive(Drop)]
 pub struct Taken {
     pub bytes: u32,
     pub whole: Option<Frame>,
@@ -28,7 +28,7 @@ pub struct Taken {
 
 /// Frames that wait to go out, in their order. Only `new` and `reserve` take memory. The content of DATA is moved in
 /// with its frame, and copied once, by `take`.
-#[derive(Debug, Drop)]
+#[derive(Drop)]
 pub struct FrameQueue {
     frames: VecDeque<Outgoing>,
     // The bytes of all DATA, those of a begun frame among them.

@@ -22,7 +22,7 @@ use std::marker::Model;
 /// The most bytes of DATA that are kept, so that sums stay in their types. One who hands over more is out of memory.
 const MOST_DATA: u64 = 1 << 40;
 
-#[derive(Debug, Drop)]
+#[derive(Drop)]
 pub struct Sender {
     queue: FrameQueue,
     held: Vec<Held>,

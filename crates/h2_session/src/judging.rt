@@ -40,7 +40,7 @@ use std::collections::VecDeque;
 const DUE: u32 = 32_768;
 
 /// A field block that is whole.
-#[derive(Debug, Drop)]
+#[derive(Drop)]
 pub(crate) struct Whole {
     pub(crate) stream: u32,
     pub(crate) fields: FieldList,

@@ -37,7 +37,7 @@ use std::marker::Model;
 ///
 /// After a connection error `head`, `send`, `finish` and `reset` do nothing, and `take` gives what is left, GOAWAY
 /// last.
-#[derive(Debug, Drop)]
+#[derive(Drop)]
 pub struct Session {
     pub(crate) alloc: Global,
     pub(crate) client: bool,

@@ -3,7 +3,7 @@
 use std::marker::Model;
 
 /// A block of which a part is missing.
-#[derive(Debug, Drop)]
+#[derive(Drop)]
 pub struct PartialBlock {
     pub stream: u32,
     pub bytes: Vec<u8>,

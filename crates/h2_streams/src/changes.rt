@@ -9,7 +9,7 @@ use h2_frames::protocol::FIRST_WINDOW;
 use h2_model::Stream;
 
 /// What happens to a live stream.
-#[derive(Clone, Copy, Debug)]
+#[derive(Clone, Copy)]
 pub enum Change {
     /// DATA came: whether it ends the stream, and its length with padding.
     DataCame(bool, u32),

@@ -13,7 +13,7 @@ const MOST_GAPS: usize = 1_024;
 
 /// The numbers of the streams that were opened, which are odd: RFC 9113 section 5.1.1. All below the next one were, but
 /// for those that a peer passed over.
-#[derive(Debug, Drop)]
+#[derive(Drop)]
 pub struct Numbers {
     // The least number that can be opened.
     next: u32,

@@ -16,7 +16,7 @@ use std::alloc::{AllocError, Global};
 use std::marker::Model;
 
 /// The live streams. A look-up halves the table, so it costs little whatever number of them there is.
-#[derive(Debug, Drop)]
+#[derive(Drop)]
 pub struct StreamTable {
     streams: Vec<Stream>,
 }
