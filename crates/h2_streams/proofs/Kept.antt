@@ -52,9 +52,6 @@ stored xs id at change s next t l own e c =
 pub stays-table : (xs : List Stream) (at : ℕ) (s next : Stream) → IsStreamTable xs → at < length xs → s ≡ slice_index_or xs at s → Same s next → IsStreamTable (slice_set xs at next)
 stays-table xs at s next t l e k = table-set xs at next l (λ d. k.id ∙ ap (λ x. x.id) (sym (own-place xs at s e l d))) k.range t
 
-pub its-range : (xs : List Stream) (at : ℕ) (s : Stream) → IsStreamTable xs → at < length xs → s ≡ slice_index_or xs at s → HasCreditInRange s
-its-range xs at s t l e = subst HasCreditInRange (own-place xs at s e l s) (t.range at s l)
-
 pub removed : (xs : List Stream) (id at : ℕ) (change : Change) (s : Stream) → IsStreamTable xs → at < length xs → ((d : Stream) → (slice_index_or xs at d).id ≡ id)
     → s ≡ slice_index_or xs at s → None ≡ changed change s → remove xs at ≡ adjusted id (changed change) xs
 removed xs id at change s t l own e c =

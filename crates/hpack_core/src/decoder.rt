@@ -13,7 +13,7 @@ use std::alloc::{AllocError, Global};
 use std::marker::Model;
 
 /// Reads the blocks of a connection, one after another. Its table is that of the connection.
-#[derive(Debug, Drop)]
+#[derive(Drop)]
 pub struct Decoder {
     alloc: Global,
     table: Table,

@@ -13,7 +13,7 @@ use std::alloc::{AllocError, Global};
 use std::marker::Model;
 
 /// Writes the blocks of a connection, one after another. It adds nothing to the peer's table, which stays empty.
-#[derive(Debug, Drop)]
+#[derive(Drop)]
 pub struct Encoder {
     alloc: Global,
     known: u32,

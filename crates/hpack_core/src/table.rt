@@ -16,7 +16,7 @@ use std::marker::Model;
 pub(crate) const MOST: u32 = 4096;
 
 // The entries that were added, newest first, the sum of their sizes, and what that may be.
-#[derive(Debug, Drop)]
+#[derive(Drop)]
 pub(crate) struct Table {
     entries: VecDeque<Field>,
     size: u64,
