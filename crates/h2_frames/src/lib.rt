@@ -17,8 +17,9 @@
 //! | CONTINUATION | 9 | END_HEADERS 4 | not 0 | any | block |
 //! | others | | | any | any | isn't read |
 //!
-//! A wrong length is a FRAME_SIZE_ERROR, a wrong stream a PROTOCOL_ERROR; the nine bytes tell both, and of both the first.
-//! Padding longer than what the frame has left for it is a PROTOCOL_ERROR, and is told once the whole frame is there.
+//! A wrong length is a FRAME_SIZE_ERROR, a wrong stream a PROTOCOL_ERROR; the nine bytes tell both, and of both the
+//! first. Padding longer than what the frame has left for it is a PROTOCOL_ERROR, and is told once the whole frame is
+//! there.
 #![tactic(auto)]
 
 pub mod codes;

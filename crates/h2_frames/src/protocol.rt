@@ -6,7 +6,8 @@ pub const PREFACE: [u8; 24] = *b"PRI * HTTP/2.0\r\n\r\nSM\r\n\r\n";
 /// How many bytes stand before a payload: section 4.1.
 pub const HEAD_LEN: usize = 9;
 
-/// The longest payload: the least SETTINGS_MAX_FRAME_SIZE, and that of a connection until a setting changes it: section 6.5.2.
+/// The longest payload: the least SETTINGS_MAX_FRAME_SIZE, and that of a connection until a setting changes it: section
+/// 6.5.2.
 pub const LONGEST_PAYLOAD: u32 = 16_384;
 
 /// The greatest SETTINGS_MAX_FRAME_SIZE.

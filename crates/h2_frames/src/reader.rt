@@ -158,7 +158,7 @@ fn finish(kept: &mut Vec<u8>, header: Header, last: &[u8]) -> Result<Frame, Fram
 
 /// Reads frames from bytes that come in pieces. Contracts see the bytes of the frame that isn't whole yet; it keeps no
 /// others.
-#[derive(Debug, Drop)]
+#[derive(Drop)]
 pub struct FrameReader {
     kept: Vec<u8>,
 }
@@ -183,8 +183,8 @@ impl FrameReader {
         Ok(FrameReader { kept })
     }
 
-    /// The next frame, if the bytes so far have a whole one. It answers the code of the first fault as soon as the bytes
-    /// tell it, and then the same again. A refusal leaves the reader as it was.
+    /// The next frame, if the bytes so far have a whole one. It answers the code of the first fault as soon as the
+    /// bytes tell it, and then the same again. A refusal leaves the reader as it was.
     pub fn feed(&mut self, bytes: &[u8]) -> Result<Step, FrameFault>
         requires { length bytes.now < 2 ^ 32 }
         ensures { Feeds self.old bytes.now result self.new }

@@ -27,6 +27,7 @@ fn settings(alloc: Global, payload: &[u8]) -> Result<SettingList, AllocError>
 {
     let mut list = SettingList::new(alloc);
     let mut rest = payload;
+    // Prover: the label names the loop in its proof.
     'settings: while rest.len() >= 6 {
         list.push(Setting {
             identifier: u16_at(rest, 0),

@@ -1,5 +1,5 @@
-//! Frames as they are written: without padding and without priority, RFC 9113 sections 4.1 and 6. Their bytes are copied from
-//! any of them on, so that a frame may go out in pieces.
+//! Frames as they are written: without padding and without priority, RFC 9113 sections 4.1 and 6. Their bytes are
+//! copied from any of them on, so that a frame may go out in pieces.
 
 ghost use Rattle.std.specs.Prelude.{◌≡◌, ◌<◌, ◌≤◌, ◌+◌, ◌-◌, ◌*◌, ◌^◌, ◌++◌, ◌∷◌, [], length, drop};
 ghost use Rattle.std.specs.Int.{w16, w32, to_be_bytes};
@@ -132,6 +132,8 @@ fn copy_settings(list: &[Setting], at: usize, out: &mut [u8], from: usize) -> us
     copy_into(&setting[place % 6..], out, from)
 }
 
+// Prover: a function for each kind of payload, so that the proof of `copy_frame` opens none of them.
+
 // Copies a frame whose payload is a number.
 fn copy_number(kind: u8, stream: u32, number: u32, at: usize, out: &mut [u8], from: usize) -> usize
     requires there { at < 13 }
@@ -191,8 +193,8 @@ pub fn frame_len(frame: &Frame) -> usize
     }
 }
 
-/// Copies the bytes of a frame from the one at `at` on to the place `from` of a buffer: of its head or of its payload, as
-/// many as fit, and tells how many. `Priority`, `Push` and `Unknown` have an empty payload.
+/// Copies the bytes of a frame from the one at `at` on to the place `from` of a buffer: of its head or of its payload,
+/// as many as fit, and tells how many. `Priority`, `Push` and `Unknown` have an empty payload.
 pub fn copy_frame(frame: &Frame, at: usize, out: &mut [u8], from: usize) -> usize
     requires short { IsShort frame.now }
     requires there { at < length (spelling frame.now) }

@@ -26,11 +26,14 @@ pub fn session_begins_held()
 /// Each call of the owner leaves what the account after it says. Ends, resets and streams of a client take no memory;
 /// bytes and blocks need room to spare.
 pub fn calls_are_held()
-    ensures open { (k l : Kept) (a : Account) → Holds k a → a.client ≡ true → length (kept_streams a) < k.streams → IsBeside k l →
+    ensures open { (k l : Kept) (a : Account) → Holds k a → a.client ≡ true → length (kept_streams a) < k.streams →
+        IsBeside k l →
         l.headless ≡ k.headless → l.numbers ≡ record k.numbers { next = k.numbers.next + 2 } →
         l.state ≡ opening k.numbers.next k.state → KeepsCapacity k l → Holds l (called Open a) }
-    ensures head { (k l : Kept) (id : ℕ) (fields : List Field) (block : List ℕ) (last : Bool) (a : Account) → Holds k a →
-        MayHead id a → k.state.violation ≡ None → HasSpare (length k.state.held + 1) k → KeepsCapacity k l → IsBeside k l →
+    ensures head { (k l : Kept) (id : ℕ) (fields : List Field) (block : List ℕ) (last : Bool) (a : Account) →
+        Holds k a →
+        MayHead id a → k.state.violation ≡ None → HasSpare (length k.state.held + 1) k → KeepsCapacity k l →
+        IsBeside k l →
         l.numbers ≡ k.numbers → l.headless ≡ (if lacks_head id k then id + 2 else k.headless) →
         l.state ≡ (if lacks_head id k then heading id (frame.Headers id block last true) k.state
         else queueing (frame.Headers id block last true) (sending (frame.Headers id block last true) k.state)) →
@@ -39,13 +42,15 @@ pub fn calls_are_held()
         is_empty bytes ≡ false → k.state.violation ≡ None → HasSpare 1 k → IsSame k l → KeepsCapacity k l →
         l.state ≡ handing (lacks_head id k) (frame.Data id bytes false (length bytes)) k.state →
         Holds l (called (Send id bytes) a) }
-    ensures finish { (k l : Kept) (id : ℕ) (a : Account) → Holds k a → is_open_here id a ≡ true → IsSame k l → KeepsCapacity k l →
+    ensures finish { (k l : Kept) (id : ℕ) (a : Account) → Holds k a → is_open_here id a ≡ true → IsSame k l →
+        KeepsCapacity k l →
         l.state ≡ (if is_some k.state.violation then k.state
         else handing (lacks_head id k) (frame.Data id [] true 0) k.state) →
         Holds l (called (Finish id) a) }
     ensures reset { (k l : Kept) (id code : ℕ) (a : Account) → Holds k a → is_live id a.log ≡ true → IsSame k l →
         KeepsCapacity k l →
-        l.state ≡ (if is_some k.state.violation then k.state else handing (lacks_head id k) (frame.Reset id code) k.state) →
+        l.state ≡ (if is_some k.state.violation then k.state
+        else handing (lacks_head id k) (frame.Reset id code) k.state) →
         Holds l (called (Reset id code) a) }
     ensures take { (k l : Kept) (n : ℕ) (a : Account) → Holds k a → IsSame k l → KeepsCapacity k l →
         l.state ≡ taking n k.state → Holds l (called (Take n) a) }
@@ -57,7 +62,8 @@ pub fn calls_have_room()
     ensures found { (k : Kept) (a : Account) → Holds k a → (id : ℕ) → is_live id a.log ≡ true →
         found id k.state.streams ≡ Some (stream_of_log id a) }
     ensures queue { (k : Kept) (a : Account) → Holds k a → (id : ℕ) → is_live id a.log ≡ true → 0 < k.room }
-    ensures held { (k : Kept) (a : Account) → Holds k a → (id : ℕ) → is_live id a.log ≡ true → k.client ≡ true → 0 < k.held_room }
+    ensures held { (k : Kept) (a : Account) → Holds k a → (id : ℕ) → is_live id a.log ≡ true → k.client ≡ true →
+        0 < k.held_room }
     ensures table { (k : Kept) (a : Account) → Holds k a → a.client ≡ true → length (kept_streams a) < k.streams →
         0 < k.table_room }
 {}
@@ -65,7 +71,8 @@ pub fn calls_have_room()
 /// What answers read of the parts is what the account says.
 pub fn answers_are_kept()
     ensures open { (k : Kept) (a : Account) → Holds k a → a.client ≡ true →
-        can_open a ≡ (nat_lt (length k.state.streams) k.state.most && nat_lt k.numbers.next 2147483648 && not k.state.goaway) }
+        can_open a ≡ (nat_lt (length k.state.streams) k.state.most && nat_lt k.numbers.next 2147483648
+        && not k.state.goaway) }
     ensures next { (k : Kept) (a : Account) → Holds k a → a.client ≡ true → k.numbers.next ≡ next_number a }
     ensures window { (k : Kept) (a : Account) → Holds k a → (id : ℕ) → is_live id a.log ≡ true → (t : Stream) →
         found id k.state.streams ≡ Some t → stream_window id a ≡ pos k.state.initial +ℤ t.credit }

@@ -20,8 +20,8 @@ pub fn session_begins()
     ensures { (client : Bool) → Becomes (start client) [] (λ k. false) (starting client) }
 {}
 
-/// `send`, `finish` and `reset` hand a frame of a live stream over: it waits in the queue, or, while the stream of a client
-/// lacks its head, is held. After a violation they change nothing.
+/// `send`, `finish` and `reset` hand a frame of a live stream over: it waits in the queue, or, while the stream of a
+/// client lacks its head, is held. After a violation they change nothing.
 pub fn frame_is_handed_over()
     ensures send { (id : ℕ) (bytes : List ℕ) (a : Account) → Valid a → CallsSound a → is_live id a.log ≡ true →
         Becomes (called (Send id bytes) a) (opened a.log) (is_headless a)
@@ -37,7 +37,8 @@ pub fn frame_is_handed_over()
 
 /// `head` hands a block over, and what was held for its stream goes behind it.
 pub fn block_goes_out()
-    ensures { (id : ℕ) (fields : List Field) (block : List ℕ) (last : Bool) (a : Account) → Valid a → CallsSound a → MayHead id a →
+    ensures { (id : ℕ) (fields : List Field) (block : List ℕ) (last : Bool) (a : Account) → Valid a → CallsSound a →
+        MayHead id a →
         Becomes (called (Head id fields block last) a) (opened a.log)
         (λ k. if is_violated a then is_headless a k else if id == k then false else is_headless a k)
         (if is_violated a then seen a else heading id (frame.Headers id block last true) (seen a)) }
@@ -60,7 +61,8 @@ pub fn connection_fails()
 /// What `feed` answers isn't waiting any more.
 pub fn event_is_told()
     ensures { (a : Account) → Valid a → CallsSound a →
-        Becomes (answered a) (opened a.log) (is_headless a) (record (seen a) { unreported = drop 1 (seen a).unreported }) }
+        Becomes (answered a) (opened a.log) (is_headless a)
+        (record (seen a) { unreported = drop 1 (seen a).unreported }) }
 {}
 
 /// What the laws above need beside `Valid` stays, whatever comes in and is opened.

@@ -14,14 +14,16 @@ ghost use Rattle.h2_model.specs.declared.answers.Event.{Event};
 ghost use Rattle.std.specs.Prelude.{Bool, List, None, find, length, ◌<◌, ◌==◌, ◌≡◌, ℕ};
 
 /// A frame comes in that is no connection error (RFC 9113 section 5.4.1): HEADERS may open a stream, the frame changes
-/// windows, settings and streams, a whole block is decoded, what the frame brings is told, and what is owed for it waits.
+/// windows, settings and streams, a whole block is decoded, what the frame brings is told, and what is owed for it
+/// waits.
 pub fn frame_comes_in()
-    ensures state { (f : Frame) (a : Account) → FramesSound a → violation_of a f ≡ None → seen (arrived f a) ≡ with_frame f a }
+    ensures state { (f : Frame) (a : Account) → FramesSound a → violation_of a f ≡ None →
+        seen (arrived f a) ≡ with_frame f a }
     ensures sound { (f : Frame) (a : Account) → FramesSound a → violation_of a f ≡ None → FramesSound (arrived f a) }
 {}
 
-/// HEADERS come in that are no connection error: they open a stream that isn't known, and reset it where 256 are live (RFC
-/// 9113 section 5.1.2). Other frames open none.
+/// HEADERS come in that are no connection error: they open a stream that isn't known, and reset it where 256 are live
+/// (RFC 9113 section 5.1.2). Other frames open none.
 pub fn headers_open_a_stream()
     ensures state { (f : Frame) (a : Account) → FramesSound a → violation_of a f ≡ None →
         seen (with_opening f a) ≡ opening_for (λ id. is_opened id a.log) f (seen a) }
@@ -32,7 +34,8 @@ pub fn headers_open_a_stream()
 pub fn stream_opens()
     ensures state { (n : ℕ) (a : Account) → FramesSound a → greatest (opened a.log) < n →
         seen (noted (Opened n) a) ≡ opening n (seen a) }
-    ensures sound { (n : ℕ) (a : Account) → FramesSound a → greatest (opened a.log) < n → FramesSound (noted (Opened n) a) }
+    ensures sound { (n : ℕ) (a : Account) → FramesSound a → greatest (opened a.log) < n →
+        FramesSound (noted (Opened n) a) }
 {}
 
 /// Bytes that are no whole frame, the preface and events that were answered change nothing else.

@@ -1,17 +1,17 @@
-//! Laws of what an HTTP/2 session keeps, as contracts of functions that do nothing: how it changes by a frame that comes in,
-//! by the calls of its owner and by bytes, and that there is room for every frame that may still come.
+//! Laws of what an HTTP/2 session keeps, as contracts of functions that do nothing: how it changes by a frame that
+//! comes in, by the calls of its owner and by bytes, and that there is room for every frame that may still come.
 //!
-//! [`h2_model`] defines a session as its log; `seen` (`specs/State`) is what code keeps of it. Each law says that the change
-//! that code makes, a function over what is kept, is the change of the log's sums.
+//! [`h2_model`] defines a session as its log; `seen` (`specs/State`) is what code keeps of it. Each law says that the
+//! change that code makes, a function over what is kept, is the change of the log's sums.
 //!
-//! - `frame_laws`: a frame comes in and is no connection error. The lemmas say the same of each step: `Entries`, `Receives`,
-//!   `Reports`, `Owes`, `Opens`.
+//! - `frame_laws`: a frame comes in and is no connection error. The lemmas say the same of each step: `Entries`,
+//!   `Receives`, `Reports`, `Owes`, `Opens`.
 //! - `call_laws`: what each call leaves.
 //! - `byte_laws`: `h2_model` reads bytes one at a time (`with_byte`) and says how many of them one call of `feed` uses
 //!   (`used`). Code reads whole frames; both come to the same.
-//! - `room_laws`: a client that keeps fewer streams than it reserved has room for every end and reset that may still come.
-//!   `specs/Rooms` counts the closing frames (DATA with END_STREAM, RST_STREAM) that wait, are held, or may still be handed
-//!   over; `Counted` says what holds of them in every account.
+//! - `room_laws`: a client that keeps fewer streams than it reserved has room for every end and reset that may still
+//!   come. `specs/Rooms` counts the closing frames (DATA with END_STREAM, RST_STREAM) that wait, are held, or may still
+//!   be handed over; `Counted` says what holds of them in every account.
 #![tactic(auto)]
 
 mod byte_laws;

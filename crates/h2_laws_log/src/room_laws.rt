@@ -31,11 +31,12 @@ pub fn frames_keep_the_count()
     ensures arrived { (f : Frame) (a : Account) → arrivals.FramesSound a → Counted a → Counted (arrived f a) }
     ensures violated { (code : ℕ) (a : Account) → Counted a → Counted (violated code a) }
     ensures byte { (b : ℕ) (a : Account) → arrivals.FramesSound a → CallsSound a → Counted a → Counted (with_byte b a) }
-    ensures bytes { (bytes : List ℕ) (a : Account) → arrivals.FramesSound a → CallsSound a → Counted a → Counted (with_bytes bytes a) }
+    ensures bytes { (bytes : List ℕ) (a : Account) → arrivals.FramesSound a → CallsSound a → Counted a →
+        Counted (with_bytes bytes a) }
 {}
 
-/// What is handed over adds an end only where there was none, and a reset only of a live stream. A block that goes out moves
-/// what was held for it to the queue, and bytes that are taken leave no more.
+/// What is handed over adds an end only where there was none, and a reset only of a live stream. A block that goes out
+/// moves what was held for it to the queue, and bytes that are taken leave no more.
 pub fn handing_keeps_the_count()
     ensures bytes { (id size : ℕ) (bytes : List ℕ) (a : Account) → Counted a →
         Counted (handed (frame.Data id bytes false size) a) }
@@ -51,6 +52,7 @@ pub fn handing_keeps_the_count()
 
 /// Each call that may be made hands over at most one end and one reset of a stream.
 pub fn calls_keep_the_count()
-    ensures { (r : Role) (call : Call) (a : Account) → arrivals.FramesSound a → CallsSound a → May r call a → Counted a →
+    ensures { (r : Role) (call : Call) (a : Account) → arrivals.FramesSound a → CallsSound a → May r call a →
+        Counted a →
         Counted (called call a) }
 {}

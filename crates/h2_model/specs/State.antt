@@ -1,5 +1,5 @@
 -- What a session keeps of its account: each part is a filter or a sum over the log.
-use Rattle.std.specs.Prelude.{ℕ, ◌==◌, Bool, List, [], ◌++◌, Option, Some, None, if◌then◌else◌, find, filter_map, reverse, ℤ, pos, ◌-ℤ◌}
+use Rattle.std.specs.Prelude.{ℕ, ◌==◌, Bool, List, Option, Some, None, if◌then◌else◌, find, filter_map, reverse, ℤ, pos, ◌-ℤ◌}
 use Rattle.std.specs.List.{list_any, list_all}
 use Rattle.hpack_core.specs.Tables as hpack
 use Rattle.h2_model.specs.declared.answers.Event.{Event}

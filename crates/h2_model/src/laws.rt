@@ -19,8 +19,8 @@ pub fn no_violation_at_first()
     ensures session { (client : Bool) → violation (account client []).log ≡ None }
 {}
 
-/// A sending window is the initial size, plus the increments received, less the DATA sent; so a changed initial size moves
-/// the windows of all streams, which may become negative, and leaves the connection's.
+/// A sending window is the initial size, plus the increments received, less the DATA sent; so a changed initial size
+/// moves the windows of all streams, which may become negative, and leaves the connection's.
 pub fn windows_are_sums()
     ensures connection { (a : Account) →
         connection_window a ≡ pos (65535 + total (increment 0) a.log) -ℤ pos (data_sent 0 a) }

@@ -1,7 +1,7 @@
 //! What is kept of a live stream.
 
 /// A live stream.
-#[derive(Clone, Copy, Debug, PartialEq, Eq)]
+#[derive(Clone, Copy)]
 pub struct Stream {
     pub id: u32,
     /// The peer has ended it.

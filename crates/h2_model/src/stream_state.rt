@@ -27,9 +27,9 @@
 /// ```
 ///
 /// A reset is RST_STREAM of either end, or a server's GOAWAY with a lower last stream. END_STREAM of this end counts as
-/// sent once it was handed over. On a closed stream DATA still counts for the connection's window and blocks are decoded;
-/// all else on it is dropped.
-#[derive(Clone, Copy, Debug, PartialEq, Eq)]
+/// sent once it was handed over. On a closed stream DATA still counts for the connection's window and blocks are
+/// decoded; all else on it is dropped.
+#[derive(Clone, Copy)]
 pub enum StreamState {
     Idle,
     /// Called open in RFC 9113.

@@ -6,7 +6,7 @@ use Rattle.hpack_core.specs.Static.{entry as field}
 use Rattle.h2_frames.specs.declared.frame.Frame.TheVariants as frame
 use Rattle.h2_model.specs.declared.answers.Event.TheVariants as event
 use Rattle.h2_model.specs.History.{Open, called}
-use Rattle.h2_model_examples.specs.Setting.{rules, fed, reported, came, client, brings, client_code}
+use Rattle.h2_model_examples.specs.Setting.{rules, reported, came, client, brings, client_code}
 
 -- a block of :status 200
 abbrev ok : List ℕ

@@ -1,5 +1,5 @@
 -- The DATA that waits and is held, as frames come and go.
-use Rattle.std.proofs.Common.{arith, rules, ◌≡◌, ◌≤◌, ◌<◌, ◌+◌, ◌-◌, ℕ, Bool, true, false, not, List, [], ◌∷◌, ◌++◌, length, get_or, take, drop, refl, sym, ap, ◌∙◌, filter, cond, if◌then◌else◌, ◌==◌, ◌||◌, nat_lt}
+use Rattle.std.proofs.Common.{arith, ◌≡◌, ◌≤◌, ◌<◌, ◌+◌, ◌-◌, ℕ, Bool, true, false, not, List, [], ◌∷◌, ◌++◌, length, get_or, take, drop, refl, sym, ap, ◌∙◌, filter, if◌then◌else◌, ◌==◌, nat_lt}
 use Rattle.std.proofs.lemmas.List.{take_more, take-append-drop}
 use Rattle.h2_laws_log.proofs.Queues.{held-append, held-split, queued-cons, queued-split}
 use Rattle.h2_frames.specs.declared.frame.Frame.{Frame}

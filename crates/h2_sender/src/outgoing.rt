@@ -76,6 +76,7 @@ fn copy_rest(frame: &Frame, greeting: bool, given: usize, out: &mut [u8]) -> usi
 {
     let total = total(frame, greeting);
     let mut n = 0;
+    // Prover: the label names the loop in its proof.
     'pieces: while n < out.len() && given + n < total {
         n += copy_piece(frame, greeting, given + n, out, n);
     }
@@ -99,7 +100,8 @@ impl Outgoing {
     /// The first SETTINGS, behind the preface for a client.
     pub(crate) fn first(frame: Frame, client: bool) -> Outgoing
         requires { IsSendable frame }
-        ensures { result ≡ record { frame = frame; left = (if client then preface else []) ++ bytes_of frame; fixed = false } }
+        ensures { result
+            ≡ record { frame = frame; left = (if client then preface else []) ++ bytes_of frame; fixed = false } }
     {
         Outgoing {
             frame,

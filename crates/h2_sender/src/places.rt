@@ -20,6 +20,7 @@ fn place_of(frames: &VecDeque<Outgoing>, new: &Outgoing) -> usize
         return len;
     }
     let mut place = len;
+    // Prover: the label names the loop in its proof, here and elsewhere.
     'places: for i in (0..len).rev() {
         let earlier = &frames[i];
         if new.stays_behind(earlier) {
@@ -32,7 +33,7 @@ fn place_of(frames: &VecDeque<Outgoing>, new: &Outgoing) -> usize
     place
 }
 
-/// Puts a frame at its place.
+/// Puts a frame at its place. There is room for it, so that `insert` does not fail.
 pub(crate) fn place(frames: &mut VecDeque<Outgoing>, new: Outgoing)
     requires { deque_len frames.old < deque_capacity frames.old }
     ensures items { frames.new.items ≡ placed new frames.old.items }

@@ -26,8 +26,8 @@ pub struct Taken {
     pub whole: Option<Frame>,
 }
 
-/// Frames that wait to go out, in their order. Only `new` and `reserve` take memory. The content of DATA is moved in with
-/// its frame, and copied once, by `take`.
+/// Frames that wait to go out, in their order. Only `new` and `reserve` take memory. The content of DATA is moved in
+/// with its frame, and copied once, by `take`.
 #[derive(Drop)]
 pub struct FrameQueue {
     frames: VecDeque<Outgoing>,
@@ -89,10 +89,10 @@ impl FrameQueue {
         self.frames.reserve(n)
     }
 
-    /// A frame enters at its place: DATA at the end, and another frame before DATA that it needn't stay behind. It stays
-    /// behind what is of its stream where one of the two is a field block or it is a reset, and blocks stay in their
-    /// order. A payload has at most 16,384 bytes, and a block, which is cut as it is given, any length. All DATA together
-    /// has at most 2^40 bytes.
+    /// A frame enters at its place: DATA at the end, and another frame before DATA that it needn't stay behind. It
+    /// stays behind what is of its stream where one of the two is a field block or it is a reset, and blocks stay in
+    /// their order. A payload has at most 16,384 bytes, and a block, which is cut as it is given, any length. All DATA
+    /// together has at most 2^40 bytes.
     pub fn enter(&mut self, frame: Frame)
         requires sendable { IsSendable frame }
         requires room { 0 < self.old.room }
@@ -134,7 +134,8 @@ impl FrameQueue {
 
     /// The bytes of a stream's DATA that others may pass: those that `drop_free` would drop.
     pub fn free_data(&self, stream: u32) -> u64
-        ensures count { result ≡ queued stream self.now.frames - queued stream (filter (λ w. not (is_free w)) self.now.frames) }
+        ensures count { result
+            ≡ queued stream self.now.frames - queued stream (filter (λ w. not (is_free w)) self.now.frames) }
         ensures bound { result ≤ 2 ^ 40 }
     {
         sums::free_data(&self.frames, stream)

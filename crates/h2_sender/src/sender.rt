@@ -38,9 +38,16 @@ impl Model for Sender {
 
     ghost Value = { Sending };
 
-    ghost view = { λ s. record { waiting = s.queue.frames; held = s.held.items; window = s.window; room = s.queue.room; held_room = vec_capacity s.held - vec_len s.held } };
+    ghost view = { λ s. record {
+      waiting = s.queue.frames;
+      held = s.held.items;
+      window = s.window;
+      room = s.queue.room;
+      held_room = vec_capacity s.held - vec_len s.held;
+    } };
 
-    ghost invariant = { λ s. (s.held_data ≡ data_among 0 s.held.items) × IsBounded s.queue.frames s.held.items s.window };
+    ghost invariant = { λ s. (s.held_data ≡ data_among 0 s.held.items)
+        × IsBounded s.queue.frames s.held.items s.window };
 }
 
 impl Sender {

@@ -7,6 +7,8 @@ ghost use Rattle.h2_sender.specs.Queue.{free_data};
 use crate::outgoing::Outgoing;
 use std::collections::VecDeque;
 
+// Prover: each is a loop by index, whose invariant is the sum over the frames before it.
+
 /// The bytes of DATA for a stream, or, for stream 0, for any.
 pub(crate) fn queued(frames: &VecDeque<Outgoing>, stream: u32) -> u64
     requires { queued stream frames.now.items ≤ 2 ^ 40 }

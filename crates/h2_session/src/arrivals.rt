@@ -56,7 +56,8 @@ impl Session {
 
     // A frame that is no connection error, with the block that it ends.
     fn accept(&mut self, frame: Frame, whole: Option<Whole>) -> Result<Event, AllocError>
-        ensures brings { (a : Account) → IsAccepted self.old frame whole a → IfOk result (λ event. Brings self.new frame a event) }
+        ensures brings { (a : Account) → IsAccepted self.old frame whole a →
+            IfOk result (λ event. Brings self.new frame a event) }
         ensures role { KeepsRole self.old self.new }
     {
         self.open_for(&frame)?;
@@ -67,7 +68,8 @@ impl Session {
     // The frame counts, what it brings is told, and what it makes due is owed.
     fn settle(&mut self, frame: Frame, whole: Option<Whole>) -> Result<Event, AllocError>
         requires { HasSpare 3 self.old }
-        ensures settled { (b : Account) → IsReady self.old frame whole b → IfOk result (λ event. Settles self.old self.new frame whole event b) }
+        ensures settled { (b : Account) → IsReady self.old frame whole b →
+            IfOk result (λ event. Settles self.old self.new frame whole event b) }
         ensures same { IsSame self.old self.new }
         ensures capacity { KeepsCapacity self.old self.new }
     {
@@ -122,8 +124,10 @@ impl Session {
 
     // HEADERS of a client open a stream; one too many is reset at once: RFC 9113 section 5.1.2.
     fn open_for(&mut self, frame: &Frame) -> Result<(), AllocError>
-        ensures state { CanOpen frame.now self.old → OnOk result (self.new.state ≡ opening_for (λ id. has id self.old.numbers) frame.now self.old.state) }
-        ensures numbers { CanOpen frame.now self.old → OnOk result (self.new.numbers ≡ numbers_with frame.now self.old.numbers) }
+        ensures state { CanOpen frame.now self.old →
+            OnOk result (self.new.state ≡ opening_for (λ id. has id self.old.numbers) frame.now self.old.state) }
+        ensures numbers { CanOpen frame.now self.old →
+            OnOk result (self.new.numbers ≡ numbers_with frame.now self.old.numbers) }
         ensures beside { IsBeside self.old self.new }
         ensures headless { self.new.headless ≡ self.old.headless }
         ensures capacity { KeepsCapacity self.old self.new }
@@ -169,7 +173,8 @@ impl Session {
     // A stream that is one too many is reset.
     fn refuse_stream(&mut self, id: u32) -> Result<(), AllocError>
         requires server { self.old.client ≡ false }
-        ensures state { OnOk result (self.new.state ≡ owing_frame false (frame.Reset id refused_stream) self.old.state) }
+        ensures state { OnOk result (self.new.state
+            ≡ owing_frame false (frame.Reset id refused_stream) self.old.state) }
         ensures same { IsSame self.old self.new }
         ensures capacity { KeepsCapacity self.old self.new }
     {
@@ -221,7 +226,8 @@ impl Session {
     }
 
     fn tell_head(&mut self, id: u32, fields: &FieldList)
-        ensures state { self.new.state ≡ record self.old.state { streams = adjusted id (with_head fields.now) self.old.state.streams } }
+        ensures state { self.new.state ≡ record self.old.state
+            { streams = adjusted id (with_head fields.now) self.old.state.streams } }
         ensures same { IsSame self.old self.new }
         ensures capacity { KeepsCapacity self.old self.new }
         ensures rooms { KeepsRoom self.old self.new }
@@ -232,7 +238,8 @@ impl Session {
 
     // The streams that GOAWAY refuses are over, and `feed` tells them one by one.
     fn refuse(&mut self, ids: VecDeque<u32>)
-        ensures state { self.new.state ≡ record (resetting_all ids.items self.old.state) { unreported = map refused ids.items } }
+        ensures state { self.new.state ≡ record (resetting_all ids.items self.old.state)
+            { unreported = map refused ids.items } }
         ensures same { IsSame self.old self.new }
         ensures capacity { KeepsCapacity self.old self.new }
         ensures rooms { KeepsRoom self.old self.new }

@@ -21,8 +21,10 @@ impl Session {
     pub fn feed(&mut self, bytes: &[u8]) -> Result<Fed, SessionFault>
         requires { length bytes.now < 2 ^ 32 }
         ensures within { IfOk result (λ f. f.used ≤ length bytes.now) }
-        ensures fed { (r : Role) (h : List Call) → StandsFor r self.old h → IfOk result (λ f. IsFed (now r h) bytes.now f) }
-        ensures fault { (r : Role) (h : List Call) → StandsFor r self.old h → IfErr result (λ e. IsFault (now r h) bytes.now e) }
+        ensures fed { (r : Role) (h : List Call) → StandsFor r self.old h →
+            IfOk result (λ f. IsFed (now r h) bytes.now f) }
+        ensures fault { (r : Role) (h : List Call) → StandsFor r self.old h →
+            IfErr result (λ e. IsFault (now r h) bytes.now e) }
         ensures stands { (r : Role) (h : List Call) → StandsFor r self.old h →
             OnOk result (StandsFor r self.new (Feed (used_bytes bytes.now (now r h)) ∷ h)) }
         ensures refused { (r : Role) (h : List Call) → StandsFor r self.old h →
@@ -49,7 +51,8 @@ impl Session {
         requires from { from ≤ length bytes.now }
         ensures within { IfOk result (λ f. f.used ≤ length bytes.now) }
         ensures told { (a : Account) → Greets self.old a bytes.now from → IfOk result (Told self.new a bytes.now) }
-        ensures refuses { (a : Account) → Greets self.old a bytes.now from → IfErr result (IfCode (RefusesBytes self.new a bytes.now)) }
+        ensures refuses { (a : Account) → Greets self.old a bytes.now from →
+            IfErr result (IfCode (RefusesBytes self.new a bytes.now)) }
         ensures role { KeepsRole self.old self.new }
     {
         let mut used = from;
@@ -85,8 +88,10 @@ impl Session {
     // The client's preface: how many of the bytes belong to it.
     fn greet(&mut self, bytes: &[u8]) -> Result<usize, SessionFault>
         ensures within { IfOk result (λ n. n ≤ length bytes.now) }
-        ensures greets { (a : Account) → Runs self.old a a bytes.now 0 → IfOk result (λ n. Greets self.new a bytes.now n) }
-        ensures refuses { (a : Account) → Runs self.old a a bytes.now 0 → IfErr result (IfCode (RefusesBytes self.new a bytes.now)) }
+        ensures greets { (a : Account) → Runs self.old a a bytes.now 0 →
+            IfOk result (λ n. Greets self.new a bytes.now n) }
+        ensures refuses { (a : Account) → Runs self.old a a bytes.now 0 →
+            IfErr result (IfCode (RefusesBytes self.new a bytes.now)) }
         ensures role { KeepsRole self.old self.new }
     {
         let mut used = 0;

@@ -79,10 +79,11 @@ fn code_of(fault: HpackFault) -> Option<u32>
 }
 
 impl Session {
-    /// The code of the first row of connection errors that a frame breaks, but for those that a whole block tells once it
-    /// is decoded.
+    /// The code of the first row of connection errors that a frame breaks, but for those that a whole block tells once
+    /// it is decoded.
     pub(crate) fn violation_of(&self, frame: &Frame) -> Option<u32>
-        ensures { (a : Account) → Holds self.now a → violation a.log ≡ None → result ≡ first_row (early_rows a frame.now) }
+        ensures { (a : Account) → Holds self.now a → violation a.log ≡ None →
+            result ≡ first_row (early_rows a frame.now) }
     {
         let rows = [
             (is_unsettled(self.first, frame), PROTOCOL_ERROR),
@@ -158,10 +159,12 @@ impl Session {
 
     // The fields of a block: RFC 9113 sections 4.3 and 10.5.1.
     fn decode(&mut self, block: &[u8]) -> Result<FieldList, SessionFault>
-        ensures decoded { self.old.fault ≡ None → IfOk result (λ fields. block_of self.old.state.table block.now ≡ Ok (fields, self.new.state.table)) }
+        ensures decoded { self.old.fault ≡ None →
+            IfOk result (λ fields. block_of self.old.state.table block.now ≡ Ok (fields, self.new.state.table)) }
         ensures kept { OnOk result (KeepsParts self.old self.new) }
         ensures fault { self.old.fault ≡ None → OnOk result (self.new.fault ≡ None) }
-        ensures refused { self.old.fault ≡ None → IfErr result (IfCode (λ code. IsFaulty code block.now self.old self.new)) }
+        ensures refused { self.old.fault ≡ None →
+            IfErr result (IfCode (λ code. IsFaulty code block.now self.old self.new)) }
         ensures role { KeepsRole self.old self.new }
     {
         if block.len() > LONGEST {
@@ -202,7 +205,8 @@ impl Session {
         frame: &Frame,
         fault: Option<(u32, u32)>,
     ) -> Result<VecDeque<Frame>, AllocError>
-        ensures frames { (b : Account) → IsOn self.now b → CanCount frame.now self.now.state → fault ≡ stream_fault b frame.now →
+        ensures frames { (b : Account) → IsOn self.now b → CanCount frame.now self.now.state →
+            fault ≡ stream_fault b frame.now →
             IfOk result (λ owed. owed.items ≡ owed_for b frame.now) }
         ensures owed { IfOk result (λ owed. All IsOwed owed.items) }
         ensures count { IfOk result (λ owed. length owed.items ≤ 3) }
@@ -214,7 +218,8 @@ impl Session {
 
     // The frames that are owed for one, but for RST_STREAM.
     fn due_for(&self, frame: &Frame) -> Result<VecDeque<Frame>, AllocError>
-        ensures frames { (b : Account) → IsOn self.now b → CanCount frame.now self.now.state → IfOk result (λ owed. owed.items ≡ due_frames b frame.now) }
+        ensures frames { (b : Account) → IsOn self.now b → CanCount frame.now self.now.state →
+            IfOk result (λ owed. owed.items ≡ due_frames b frame.now) }
         ensures owed { IfOk result (λ owed. All IsOwed owed.items) }
         ensures count { IfOk result (λ owed. length owed.items ≤ 2) }
     {
@@ -267,7 +272,8 @@ impl Session {
 
     // The window update that DATA makes due on the connection: RFC 9113 section 6.9.
     fn connection_update(&self, size: u32) -> Option<u32>
-        ensures { (b : Account) → IsOn self.now b → self.now.state.unreturned + size < 2 ^ 32 → update_frames 0 result ≡ update 0 size b.log }
+        ensures { (b : Account) → IsOn self.now b → self.now.state.unreturned + size < 2 ^ 32 →
+            update_frames 0 result ≡ update 0 size b.log }
     {
         due(self.unreturned, size)
     }
@@ -376,7 +382,8 @@ fn fault_of_update(streams: &StreamTable, initial: u32, id: u32, n: u32) -> Opti
 }
 
 fn fault_of_block(streams: &StreamTable, whole: &Whole) -> Option<(u32, u32)>
-    ensures { (b : Account) (o : OpenBlock) → streams.now.streams ≡ live_streams b → whole.now.stream ≡ o.stream → whole.now.last ≡ o.last →
+    ensures { (b : Account) (o : OpenBlock) → streams.now.streams ≡ live_streams b → whole.now.stream ≡ o.stream →
+        whole.now.last ≡ o.last →
         result ≡ on_live b o.stream (block_rows b o whole.now.fields) }
 {
     match streams.get(whole.stream) {
@@ -390,7 +397,8 @@ fn fault_of_block(streams: &StreamTable, whole: &Whole) -> Option<(u32, u32)>
 
 // The numbers of the streams above one.
 fn push_above(ids: &mut VecDeque<u32>, last: u32, streams: &[Stream]) -> Result<(), AllocError>
-    ensures { OnOk result (ids.new.items ≡ ids.old.items ++ map (λ t. t.id) (filter (λ t. nat_lt last t.id) streams.now)) }
+    ensures { OnOk result (ids.new.items ≡ ids.old.items
+        ++ map (λ t. t.id) (filter (λ t. nat_lt last t.id) streams.now)) }
 {
     for stream in streams {
         if stream.id > last {

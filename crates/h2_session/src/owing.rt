@@ -94,7 +94,8 @@ impl Session {
     }
 
     fn give_back_on(&mut self, id: u32, n: u32)
-        ensures state { self.new.state ≡ record self.old.state { streams = adjusted id (with_update n) self.old.state.streams } }
+        ensures state { self.new.state ≡ record self.old.state
+            { streams = adjusted id (with_update n) self.old.state.streams } }
         ensures same { IsSame self.old self.new }
         ensures capacity { KeepsCapacity self.old self.new }
         ensures room { self.new.room ≡ self.old.room }

@@ -198,7 +198,8 @@ impl Session {
 
     fn take_increment(&mut self, id: u32, n: u32)
         requires { self.old.state.first ≡ false }
-        ensures state { CanTake (frame.Window id n) self.old.state → self.new.state ≡ receiving (frame.Window id n) self.old.state }
+        ensures state { CanTake (frame.Window id n) self.old.state →
+            self.new.state ≡ receiving (frame.Window id n) self.old.state }
         ensures faulty { IsAbsorbed (frame.Window id n) self.old.state self.new.state }
         ensures same { IsSame self.old self.new }
         ensures capacity { KeepsCapacity self.old self.new }

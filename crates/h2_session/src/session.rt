@@ -35,7 +35,8 @@ use std::marker::Model;
 
 /// One end of a connection. It stands for the history of its calls.
 ///
-/// After a connection error `head`, `send`, `finish` and `reset` do nothing, and `take` gives what is left, GOAWAY last.
+/// After a connection error `head`, `send`, `finish` and `reset` do nothing, and `take` gives what is left, GOAWAY
+/// last.
 #[derive(Drop)]
 pub struct Session {
     pub(crate) alloc: Global,
@@ -166,14 +167,15 @@ impl Session {
         Session::new(alloc, false, 0)
     }
 
-    /// Opens the stream of the next number. There is none where the peer's limit is reached (RFC 9113 section 5.1.2), the
-    /// numbers are used up (5.1.1) or GOAWAY came (6.8). It takes no memory.
+    /// Opens the stream of the next number. There is none where the peer's limit is reached (RFC 9113 section 5.1.2),
+    /// the numbers are used up (5.1.1) or GOAWAY came (6.8). It takes no memory.
     pub fn open(&mut self) -> Result<u32, NoStream>
         requires { Stands self.old (λ r h. (r.client ≡ true) × (length (kept_streams (now r h)) < r.streams)) }
         ensures opens { (r : Role) (h : List Call) → StandsFor r self.old h →
             IfOk result (λ id. (can_open (now r h) ≡ true) × (id ≡ next_number (now r h))) }
         ensures none { (r : Role) (h : List Call) → StandsFor r self.old h → OnErr result (can_open (now r h) ≡ false) }
-        ensures stands { (r : Role) (h : List Call) → StandsFor r self.old h → OnOk result (StandsFor r self.new (Open ∷ h)) }
+        ensures stands { (r : Role) (h : List Call) → StandsFor r self.old h →
+            OnOk result (StandsFor r self.new (Open ∷ h)) }
         ensures same { (r : Role) (h : List Call) → StandsFor r self.old h → OnErr result (StandsFor r self.new h) }
     {
         let id = self.numbers.next();
@@ -241,7 +243,8 @@ impl Session {
     fn hand_head(&mut self, id: u32, block: Blob, end: bool)
         requires known { self.old.state.known ≡ self.old.state.limit }
         requires room { length self.old.state.held < self.old.room }
-        ensures state { self.new.state ≡ heading_as (lacks_head id self.old) id (frame.Headers id block end true) self.old.state }
+        ensures state { self.new.state ≡ heading_as (lacks_head id self.old) id (frame.Headers id block end true)
+            self.old.state }
         ensures headless { self.new.headless ≡ (if lacks_head id self.old then id + 2 else self.old.headless) }
         ensures beside { IsBeside self.old self.new }
         ensures numbers { self.new.numbers ≡ self.old.numbers }
@@ -261,7 +264,8 @@ impl Session {
     pub fn send(&mut self, id: u32, bytes: &[u8]) -> Result<u32, AllocError>
         requires { Stands self.old (λ r h. is_open_here id (now r h) ≡ true) }
         ensures within { IfOk result (λ n. n ≤ length bytes.now) }
-        ensures taken { (r : Role) (h : List Call) → StandsFor r self.old h → IfOk result (λ n. n ≡ sendable id (length bytes.now) (now r h)) }
+        ensures taken { (r : Role) (h : List Call) → StandsFor r self.old h →
+            IfOk result (λ n. n ≡ sendable id (length bytes.now) (now r h)) }
         ensures stands { (r : Role) (h : List Call) → StandsFor r self.old h →
             IfOk result (λ n. StandsFor r self.new (Send id (take n bytes.now) ∷ h)) }
         ensures failed { (r : Role) (h : List Call) → StandsFor r self.old h → OnErr result (StandsFor r self.new h) }
@@ -303,11 +307,14 @@ impl Session {
     fn hand_data(&mut self, id: u32, content: Blob, last: bool)
         requires short { length content ≤ 16_384 }
         requires window { 0 < length content → pos (length content) ≤ℤ self.old.state.window }
-        requires bound { 0 < length content → data_kept self.old.state.waiting self.old.state.held + length content ≤ 2 ^ 40 }
+        requires bound { 0 < length content →
+            data_kept self.old.state.waiting self.old.state.held + length content ≤ 2 ^ 40 }
         requires room { 0 < self.old.room }
         requires held { self.old.client ≡ true → 0 < self.old.held_room }
-        requires credit { (t : Stream) → found id self.old.state.streams ≡ Some t → Allows (DataSent last (length content)) t }
-        ensures state { self.new.state ≡ handing (lacks_head id self.old) (frame.Data id content last (length content)) self.old.state }
+        requires credit { (t : Stream) → found id self.old.state.streams ≡ Some t →
+            Allows (DataSent last (length content)) t }
+        ensures state { self.new.state ≡ handing (lacks_head id self.old) (frame.Data id content last (length content))
+            self.old.state }
         ensures same { IsSame self.old self.new }
         ensures capacity { KeepsCapacity self.old self.new }
     {
@@ -375,7 +382,8 @@ impl Session {
     pub fn take(&mut self, out: &mut [u8]) -> u32
         requires { length out.old < 2 ^ 32 }
         ensures within { result ≤ length out.old }
-        ensures gives { (r : Role) (h : List Call) → StandsFor r self.old h → GivesBytes (now r h) out.old out.new result }
+        ensures gives { (r : Role) (h : List Call) → StandsFor r self.old h →
+            GivesBytes (now r h) out.old out.new result }
         ensures stands { (r : Role) (h : List Call) → StandsFor r self.old h → StandsFor r self.new (Take result ∷ h) }
     {
         let Taken { bytes, whole } = self.sender.take(out);
@@ -425,8 +433,8 @@ impl Session {
         }
     }
 
-    /// Whether `head` may be called: with the next stream that lacks a head, or behind the head of a stream that is open on
-    /// this side.
+    /// Whether `head` may be called: with the next stream that lacks a head, or behind the head of a stream that is
+    /// open on this side.
     pub fn may_head(&self, id: u32) -> bool
         ensures may { (r : Role) (h : List Call) → StandsFor r self.now h → result ≡ true → MayHead id (now r h) }
         ensures only { (r : Role) (h : List Call) → StandsFor r self.now h → MayHead id (now r h) → result ≡ true }
@@ -450,19 +458,20 @@ impl Session {
         }
     }
 
-    /// The length of the frames other than DATA that wait, counted to 2^64 - 1. A peer makes it greater by each PING and
-    /// SETTINGS, so its owner feeds no more while it is great.
+    /// The length of the frames other than DATA that wait, counted to 2^64 - 1. A peer makes it greater by each PING
+    /// and SETTINGS, so its owner feeds no more while it is great.
     pub fn control(&self) -> u64
         ensures { (r : Role) (h : List Call) → StandsFor r self.now h → result ≡ min (control (now r h)) (2 ^ 64 - 1) }
     {
         self.sender.control()
     }
 
-    /// The length of what is kept but for bytes that `send` took, counted to 2^64 - 1: the frame and the block that were
-    /// begun, the decoder's table, and the frames other than DATA that wait. After a connection error, when nothing is read
-    /// any more, it is what waits.
+    /// The length of what is kept but for bytes that `send` took, counted to 2^64 - 1: the frame and the block that
+    /// were begun, the decoder's table, and the frames other than DATA that wait. After a connection error, when
+    /// nothing is read any more, it is what waits.
     pub fn held(&self) -> u64
-        ensures { (r : Role) (h : List Call) → StandsFor r self.now h → result ≡ min (kept_bytes (now r h)) (2 ^ 64 - 1) }
+        ensures { (r : Role) (h : List Call) → StandsFor r self.now h →
+            result ≡ min (kept_bytes (now r h)) (2 ^ 64 - 1) }
     {
         let waiting = self.sender.control();
         if self.violation.is_some() {
@@ -473,7 +482,8 @@ impl Session {
 
     // The length of what came in and isn't used up: RFC 9113 section 4.1, 4.3.
     fn input(&self) -> u64
-        ensures { result ≡ min (length self.now.reader + begun_bytes self.now.state.block + kept self.now.state.table.entries) (2 ^ 64 - 1) }
+        ensures { result ≡ min (length self.now.reader + begun_bytes self.now.state.block + kept
+            self.now.state.table.entries) (2 ^ 64 - 1) }
     {
         self.reader
             .held()

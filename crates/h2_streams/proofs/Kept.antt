@@ -1,5 +1,5 @@
 -- A table stays one.
-use Rattle.std.proofs.Common.{◌≡◌, ℕ, ◌+◌, ◌≤◌, ◌<◌, ◌^◌, Bool, true, false, if◌then◌else◌, ◌&&◌, ◌||◌, nat_eq, ◌-◌, List, [], ◌∷◌, ◌++◌, length, take, drop, slice_index_or, slice_set, Some, None, suc, subst, refl, sym, ◌∙◌, ap, ℤ, ◌+ℤ◌, ◌-ℤ◌, ◌≤ℤ◌, option_to_list, arith}
+use Rattle.std.proofs.Common.{◌≡◌, ℕ, ◌<◌, Bool, true, false, nat_eq, List, ◌++◌, length, take, drop, slice_index_or, slice_set, Some, None, suc, subst, refl, sym, ◌∙◌, ap, option_to_list, arith}
 use Rattle.std.specs.List.{remove}
 use Rattle.std.proofs.lemmas.List.Elements.{All-set}
 use Rattle.std.proofs.lemmas.Bool.{eqb-true}
@@ -51,9 +51,6 @@ stored xs id at change s next t l own e c =
 
 pub stays-table : (xs : List Stream) (at : ℕ) (s next : Stream) → IsStreamTable xs → at < length xs → s ≡ slice_index_or xs at s → Same s next → IsStreamTable (slice_set xs at next)
 stays-table xs at s next t l e k = table-set xs at next l (λ d. k.id ∙ ap (λ x. x.id) (sym (own-place xs at s e l d))) k.range t
-
-pub its-range : (xs : List Stream) (at : ℕ) (s : Stream) → IsStreamTable xs → at < length xs → s ≡ slice_index_or xs at s → HasCreditInRange s
-its-range xs at s t l e = subst HasCreditInRange (own-place xs at s e l s) (t.range at s l)
 
 pub removed : (xs : List Stream) (id at : ℕ) (change : Change) (s : Stream) → IsStreamTable xs → at < length xs → ((d : Stream) → (slice_index_or xs at d).id ≡ id)
     → s ≡ slice_index_or xs at s → None ≡ changed change s → remove xs at ≡ adjusted id (changed change) xs

@@ -1,7 +1,7 @@
 -- Where a number stands in a table.
 use Rattle.std.proofs.Common.{◌≡◌, ℕ, ◌+◌, ◌≤◌, ◌<◌, Bool, true, false, nat_lt, List, [], ◌∷◌, ◌++◌, length, slice_index_or, Option, Some, None, suc, subst, refl, ap, ◌==◌, sym, ◌∙◌, take, drop, option_to_list, All, IfSome, if◌then◌else◌, arith}
 use Rattle.std.specs.List.{cons_option}
-use Rattle.std.proofs.lemmas.List.{get_or_default, get_or-take, get_or-drop, take-append-drop}
+use Rattle.std.proofs.lemmas.List.{get_or-take, get_or-drop, take-append-drop}
 use Rattle.std.proofs.Math.Seq.{drop-cons}
 use Rattle.std.specs.List.Sorted.{IsPartitionedBy}
 use Rattle.std.proofs.lemmas.Bool.{eqb-true}
@@ -124,10 +124,6 @@ adjusted-here streams id at f up l own d =
 -- no stream below a number stands behind one that isn't
 pub parted : (streams : List Stream) (id : ℕ) → Ascends streams → IsPartitionedBy (λ s. nat_lt s.id id) streams
 parted streams id up i j d l m e = below _ _ id (rises streams i j d up l m) e
-
--- the stream at a place, read with any default
-pub at-place : (streams : List Stream) (at : ℕ) (s d : Stream) → s ≡ slice_index_or streams at s → at < length streams → slice_index_or streams at d ≡ s
-at-place streams at s d e l = get_or_default streams at d s l ∙ sym e
 
 pub unequal : (a b : ℕ) → (a ≡ b → ⊥) → (a == b) ≡ false
 unequal a b h = by (a == b) refl

@@ -1,5 +1,5 @@
 -- What becomes of a live stream by what happens to it.
-use Rattle.std.specs.Prelude.{ℕ, zero, suc, ◌≡◌, ◌+◌, ◌<◌, ◌^◌, ◌&&◌, Option, Some, None, pos, negsuc, ◌+ℤ◌, ◌-ℤ◌, ◌≤ℤ◌}
+use Rattle.std.specs.Prelude.{zero, suc, ◌≡◌, ◌+◌, ◌<◌, ◌^◌, ◌&&◌, Option, Some, None, pos, negsuc, ◌+ℤ◌, ◌-ℤ◌, ◌≤ℤ◌}
 use Rattle.h2_model.specs.declared.stream.Stream.{Stream}
 use Rattle.h2_model.specs.Moves.{with_data, with_end, with_increment, with_sent, with_block_sent, with_update, with_room}
 use Rattle.h2_streams.specs.Tables.{HasCreditInRange}

@@ -1,5 +1,5 @@
 -- What is true of a table of live streams.
-use Rattle.std.specs.Prelude.{ℕ, ◌≡◌, ◌<◌, ◌==◌, ◌^◌, false, List, [], ◌∷◌, All, ℤ, pos, negsuc, ◌≤ℤ◌}
+use Rattle.std.specs.Prelude.{ℕ, ◌≡◌, ◌<◌, ◌==◌, ◌^◌, false, List, [], ◌∷◌, All, pos, negsuc, ◌≤ℤ◌}
 use Rattle.std.specs.List.{AllPairs}
 use Rattle.h2_model.specs.declared.stream.Stream.{Stream}
 

@@ -1,5 +1,5 @@
-//! The streams of an HTTP/2 session: which numbers were opened, what is kept of each live stream, and what a frame breaks,
-//! as tests of what is kept: the rows of the tables of connection errors and of stream errors.
+//! The streams of an HTTP/2 session: which numbers were opened, what is kept of each live stream, and what a frame
+//! breaks, as tests of what is kept: the rows of the tables of connection errors and of stream errors.
 #![tactic(auto)]
 
 mod blocks;

@@ -11,8 +11,8 @@ use std::marker::Model;
 /// How many gaps are kept. A peer that passes over numbers more often is answered as out of memory.
 const MOST_GAPS: usize = 1_024;
 
-/// The numbers of the streams that were opened, which are odd: RFC 9113 section 5.1.1. All below the next one were, but for
-/// those that a peer passed over.
+/// The numbers of the streams that were opened, which are odd: RFC 9113 section 5.1.1. All below the next one were, but
+/// for those that a peer passed over.
 #[derive(Drop)]
 pub struct Numbers {
     // The least number that can be opened.

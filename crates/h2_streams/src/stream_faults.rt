@@ -17,7 +17,8 @@ use h2_model::Stream;
 
 /// DATA on a stream that is half-closed (remote): section 5.1.
 pub fn data_fault(stream: &Stream) -> Option<u32>
-    ensures { (a : Account) → stream.now ≡ stream_of_log stream.now.id a → result ≡ first_row (data_rows a stream.now.id) }
+    ensures { (a : Account) → stream.now ≡ stream_of_log stream.now.id a →
+        result ≡ first_row (data_rows a stream.now.id) }
 {
     if stream.peer_ended {
         return Some(STREAM_CLOSED);
@@ -37,7 +38,8 @@ fn window(stream: &Stream, initial: u32) -> i64
 /// WINDOW_UPDATE of 0 (section 6.9), or one that makes the window too wide (section 6.9.1).
 pub fn update_fault(stream: &Stream, initial: u32, n: u32) -> Option<u32>
     requires { HasCreditInRange stream.now }
-    ensures { (a : Account) → stream.now ≡ stream_of_log stream.now.id a → initial ≡ initial_window a.log → result ≡ first_row (update_rows a stream.now.id n) }
+    ensures { (a : Account) → stream.now ≡ stream_of_log stream.now.id a → initial ≡ initial_window a.log →
+        result ≡ first_row (update_rows a stream.now.id n) }
 {
     if n == 0 {
         return Some(PROTOCOL_ERROR);
@@ -51,7 +53,8 @@ pub fn update_fault(stream: &Stream, initial: u32, n: u32) -> Option<u32>
 /// A block on a stream that is half-closed (remote) (section 5.1), a second block that doesn't end the stream (8.1), or
 /// one with an upper-case name or a late pseudo field (8.2.1, 8.3).
 pub fn block_fault(stream: &Stream, last: bool, fields: &FieldList) -> Option<u32>
-    ensures { (a : Account) (b : OpenBlock) → stream.now ≡ stream_of_log b.stream a → last ≡ b.last → result ≡ first_row (block_rows a b fields.now) }
+    ensures { (a : Account) (b : OpenBlock) → stream.now ≡ stream_of_log b.stream a → last ≡ b.last →
+        result ≡ first_row (block_rows a b fields.now) }
 {
     if stream.peer_ended {
         return Some(STREAM_CLOSED);
@@ -124,7 +127,8 @@ pub fn is_interim(fields: &FieldList) -> bool
 }
 
 fn is_interim_status(status: &[u8]) -> bool
-    ensures { result ≡ ((length status.now == 3) && (slice_index status.now 0 == 49) && list_all (λ b. nat_le 48 b && nat_le b 57) status.now) }
+    ensures { result ≡ ((length status.now == 3) && (slice_index status.now 0 == 49)
+        && list_all (λ b. nat_le 48 b && nat_le b 57) status.now) }
 {
     status.len() == 3
         && status[0] == b'1'

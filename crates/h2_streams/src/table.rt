@@ -33,12 +33,15 @@ impl Model for StreamTable {
     ghost invariant = { λ t. IsStreamTable t.streams.items };
 }
 
+// Prover: free functions over the list do the work, since a method is proved against the whole model of the table.
+
 // The place of a number: where it stands, or would.
 fn place(streams: &[Stream], id: u32) -> usize
     requires { Ascends streams.now }
     ensures bound { result ≤ length streams.now }
     ensures below { (k : ℕ) (d : Stream) → k < result → (slice_index_or streams.now k d).id < id }
-    ensures above { (k : ℕ) (d : Stream) → result ≤ k → k < length streams.now → id ≤ (slice_index_or streams.now k d).id }
+    ensures above { (k : ℕ) (d : Stream) → result ≤ k → k < length streams.now →
+        id ≤ (slice_index_or streams.now k d).id }
 {
     streams.partition_point(|stream| stream.id < id)
 }
@@ -61,6 +64,7 @@ fn search(streams: &[Stream], id: u32) -> Option<usize>
 }
 
 // The stream of a number.
+// Prover: `?` on an `Option` would leave a goal open.
 fn stream_in(streams: &[Stream], id: u32) -> Option<Stream>
     requires { Ascends streams.now }
     ensures { result ≡ found id streams.now }
@@ -74,7 +78,8 @@ fn stream_in(streams: &[Stream], id: u32) -> Option<Stream>
 fn change_in(streams: &mut Vec<Stream>, id: u32, change: Change)
     requires table { IsStreamTable streams.old.items }
     requires fits { (t : Stream) → found id streams.old.items ≡ Some t → Allows change t }
-    ensures items { ((t : Stream) → found id streams.old.items ≡ Some t → Counts change t) → streams.new.items ≡ adjusted id (changed change) streams.old.items }
+    ensures items { ((t : Stream) → found id streams.old.items ≡ Some t → Counts change t) →
+        streams.new.items ≡ adjusted id (changed change) streams.old.items }
     ensures table { IsStreamTable streams.new.items }
     ensures len { vec_len streams.new ≤ vec_len streams.old }
     ensures capacity { vec_capacity streams.new ≡ vec_capacity streams.old }
@@ -115,7 +120,8 @@ fn widens(streams: &[Stream], initial: u32) -> bool
 fn open_in(streams: &mut Vec<Stream>, id: u32)
     requires table { IsStreamTable streams.old.items }
     requires room { vec_len streams.old < vec_capacity streams.old }
-    ensures items { ((k : ℕ) (d : Stream) → k < length streams.old.items → (slice_index_or streams.old.items k d).id < id) →
+    ensures items { ((k : ℕ) (d : Stream) → k < length streams.old.items →
+        (slice_index_or streams.old.items k d).id < id) →
         streams.new.items ≡ streams.old.items ++ new_stream id ∷ [] }
     ensures table { IsStreamTable streams.new.items }
     ensures len { vec_len streams.new ≤ vec_len streams.old + 1 }
@@ -170,7 +176,8 @@ impl StreamTable {
     /// A stream is opened, above all the others: one that isn't changes nothing. It takes no memory.
     pub fn open(&mut self, id: u32)
         requires { 0 < self.old.room }
-        ensures streams { ((k : ℕ) (d : Stream) → k < length self.old.streams → (slice_index_or self.old.streams k d).id < id) →
+        ensures streams { ((k : ℕ) (d : Stream) → k < length self.old.streams →
+            (slice_index_or self.old.streams k d).id < id) →
             self.new.streams ≡ self.old.streams ++ new_stream id ∷ [] }
         ensures capacity { self.old.room + length self.old.streams ≤ self.new.room + length self.new.streams }
     {

@@ -137,7 +137,8 @@ pub fn widens_connection(window: i64, frame: &Frame) -> bool
 
 /// DATA past a receiving window: section 6.9.1.
 pub fn exceeds_window(receive: u32, streams: &StreamTable, frame: &Frame) -> bool
-    ensures { (a : Account) → receive ≡ receiving_window 0 a.log → streams.now.streams ≡ live_streams a → result ≡ exceeds_window a frame.now }
+    ensures { (a : Account) → receive ≡ receiving_window 0 a.log → streams.now.streams ≡ live_streams a →
+        result ≡ exceeds_window a frame.now }
 {
     match frame {
         Frame::Data(id, _, _, size) => { receive < *size || exceeds_stream(streams, *id, *size) }
@@ -146,7 +147,8 @@ pub fn exceeds_window(receive: u32, streams: &StreamTable, frame: &Frame) -> boo
 }
 
 fn exceeds_stream(streams: &StreamTable, id: u32, size: u32) -> bool
-    ensures { (a : Account) → streams.now.streams ≡ live_streams a → result ≡ (is_live id a.log && nat_lt (receiving_window id a.log) size) }
+    ensures { (a : Account) → streams.now.streams ≡ live_streams a →
+        result ≡ (is_live id a.log && nat_lt (receiving_window id a.log) size) }
 {
     match streams.get(id) {
         Some(stream) => stream.receive < size,

@@ -1,5 +1,5 @@
 -- Which entries fit.
-use Rattle.std.proofs.Common.{◌≡◌, ℕ, ◌+◌, ◌-◌, ◌*◌, ◌<◌, ◌≤◌, List, [], ◌∷◌, ◌++◌, length, refl, ap, sym, ◌∙◌, arith, lt-ltb, le-ltb, ◌⊎◌, inl, inr}
+use Rattle.std.proofs.Common.{◌≡◌, ℕ, ◌+◌, ◌-◌, ◌*◌, ◌<◌, ◌≤◌, List, [], ◌∷◌, ◌++◌, length, refl, ap, sym, ◌∙◌, arith, lt-ltb, le-ltb, inl, inr}
 use Rattle.ext_msgs.specs.declared.lists.Field.{Field}
 use Rattle.hpack_core.specs.Tables.{size, total, kept, cut}
 use Rattle.hpack_prim.proofs.IntegerLemmas.{below_or_not}

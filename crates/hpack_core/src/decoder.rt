@@ -46,7 +46,8 @@ impl Decoder {
     /// the bytes of name and value and 32. After a fault, out of memory among them, each later call answers the same.
     pub fn block(&mut self, bytes: &[u8]) -> Result<FieldList, HpackFault>
         requires { length bytes.now < 2 ^ 31 }
-        ensures exact { self.old.fault ≡ None → GivesValue (λ l. (l, self.new.table)) result (block_of self.old.table bytes.now) }
+        ensures exact { self.old.fault ≡ None →
+            GivesValue (λ l. (l, self.new.table)) result (block_of self.old.table bytes.now) }
         ensures again { (fault : HpackFault) → self.old.fault ≡ Some fault → result ≡ Err fault }
         ensures fault { IfErr result (λ e. self.new.fault ≡ Some e) }
         ensures ok { OnOk result (self.new.fault ≡ None) }

@@ -1,7 +1,7 @@
 //! The header blocks of HTTP/2: HPACK, RFC 7541.
 //!
-//! A [`Decoder`] reads the blocks of a connection, one after another, and an [`Encoder`] writes them. The fields are those
-//! of `ext_msgs`.
+//! A [`Decoder`] reads the blocks of a connection, one after another, and an [`Encoder`] writes them. The fields are
+//! those of `ext_msgs`.
 #![tactic(auto)]
 
 mod block;

@@ -51,6 +51,7 @@ pub(crate) fn number_of_field(field: &Field) -> Option<u32>
 }
 
 // The entry of an index below 61.
+// Prover: a match, since a constant array of texts would be opened in each proof.
 #[tactic(auto, unfolding(crate::specs::Static::static_table))]
 pub(crate) fn static_at(index: u32) -> (&'static [u8], &'static [u8])
     requires { index < 61 }

@@ -42,6 +42,7 @@ fn huffman_of(alloc: Global, text: &[u8], len: u32) -> Result<Vec<u8>, AllocErro
 }
 
 // Writes a string at the end. Where memory runs out, a part of it stays.
+// Prover: `?` and then `Ok(())`, here and below, since a call in the last place leaves open what it ensures.
 fn push_string(alloc: Global, out: &mut Vec<u8>, text: &[u8]) -> Result<(), AllocError>
     requires { length text.now < 2 ^ 32 }
     ensures { OnOk result ((s : List ℕ) × StringWritten text.now s × (out.new.items ≡ out.old.items ++ s)) }
@@ -61,7 +62,8 @@ fn push_string(alloc: Global, out: &mut Vec<u8>, text: &[u8]) -> Result<(), Allo
 // Writes the name of a literal at the end.
 fn push_name(alloc: Global, out: &mut Vec<u8>, name: &[u8]) -> Result<(), AllocError>
     requires { length name.now < 2 ^ 32 }
-    ensures { OnOk result ((s : List ℕ) × NameWritten (name_number name.now) name.now s × (out.new.items ≡ out.old.items ++ s)) }
+    ensures { OnOk result ((s : List ℕ) × NameWritten (name_number name.now) name.now s
+        × (out.new.items ≡ out.old.items ++ s)) }
 {
     if let Some(number) = number_of_name(name) {
         return push_int(out, number, 4, 0);
@@ -75,7 +77,8 @@ fn push_name(alloc: Global, out: &mut Vec<u8>, name: &[u8]) -> Result<(), AllocE
 fn push_field(alloc: Global, out: &mut Vec<u8>, field: &Field) -> Result<(), AllocError>
     requires name { length field.now.name < 2 ^ 32 }
     requires value { length field.now.value < 2 ^ 32 }
-    ensures { OnOk result ((s : List ℕ) × FieldWritten (field_number field.now) field.now s × (out.new.items ≡ out.old.items ++ s)) }
+    ensures { OnOk result ((s : List ℕ) × FieldWritten (field_number field.now) field.now s
+        × (out.new.items ≡ out.old.items ++ s)) }
 {
     if let Some(number) = number_of_field(field) {
         return push_int(out, number, 7, 128);

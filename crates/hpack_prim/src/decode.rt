@@ -11,6 +11,8 @@ use crate::decode_table::{
     SYMBOLS_22, SYMBOLS_24, SYMBOLS_28, SYMBOLS_30,
 };
 
+// Prover: a function for each table, so that each proof opens one of them.
+
 // The code by 8 bits: its length, or 0, and its symbol.
 #[tactic(auto, unfolding(crate::specs::Decoding::entry_8))]
 fn code_8(front: u32) -> (u8, u16)
@@ -126,7 +128,8 @@ fn byte_at(bytes: &[u8], place: usize) -> u8
 // Four bytes from a place on as a number, with 0 behind the last.
 fn number_at(bytes: &[u8], start: usize) -> u32
     requires { start < 2 ^ 60 }
-    ensures { result ≡ ((get_or bytes.now start 0 * 256 + get_or bytes.now (start + 1) 0) * 256 + get_or bytes.now (start + 2) 0) * 256 + get_or bytes.now (start + 3) 0 }
+    ensures { result ≡ ((get_or bytes.now start 0 * 256 + get_or bytes.now (start + 1) 0) * 256 + get_or bytes.now
+        (start + 2) 0) * 256 + get_or bytes.now (start + 3) 0 }
 {
     if start + 3 < bytes.len() {
         return number_of(
@@ -192,7 +195,8 @@ fn next_symbol(bytes: &[u8], at: u64, taken: Taken) -> Option<(u16, u64, Taken)>
     requires inside { at ≤ 8 * length bytes.now }
     requires bits { HoldsBits bytes.now at taken.number taken.held }
     requires most { taken.held ≤ 64 }
-    ensures symbol { MatchOption result (symbol_at (drop at (bits_of bytes.now)) ≡ None) (λ p. symbol_at (drop at (bits_of bytes.now)) ≡ Some (p.0, drop p.1 (bits_of bytes.now))) }
+    ensures symbol { MatchOption result (symbol_at (drop at (bits_of bytes.now))
+        ≡ None) (λ p. symbol_at (drop at (bits_of bytes.now)) ≡ Some (p.0, drop p.1 (bits_of bytes.now))) }
     ensures inside { IfSome result (λ p. p.1 ≤ 8 * length bytes.now) }
     ensures bits { IfSome result (λ p. HoldsBits bytes.now p.1 p.2.number p.2.held) }
     ensures most { IfSome result (λ p. p.2.held ≤ 64) }
@@ -211,8 +215,10 @@ fn next_symbol(bytes: &[u8], at: u64, taken: Taken) -> Option<(u16, u64, Taken)>
 }
 
 // The bit at a place.
+// Prover: `?` on an `Option` would leave a goal open.
 fn bit_at(bytes: &[u8], place: u64) -> Option<u8>
-    ensures bit { MatchOption result (drop place (bits_of bytes.now) ≡ []) (λ b. drop place (bits_of bytes.now) ≡ b ∷ drop (place + 1) (bits_of bytes.now)) }
+    ensures bit { MatchOption result (drop place (bits_of bytes.now) ≡ []) (λ b. drop place (bits_of bytes.now)
+        ≡ b ∷ drop (place + 1) (bits_of bytes.now)) }
     ensures inside { IfSome result (λ b. place < 8 * length bytes.now) }
     ensures binary { IfSome result (λ b. b < 2) }
 {
@@ -251,7 +257,8 @@ pub fn huff_decode(bytes: &[u8], out: &mut [u8]) -> Result<u32, PrimFault>
     requires room { 2 * length bytes.now ≤ length out.old }
     ensures counted { IfOk result (λ n. n ≤ length out.new) }
     ensures inside { IfErr result (λ fault. place_of fault ≤ length bytes.now) }
-    ensures exact { MatchResult result (λ n. huff_of bytes.now ≡ Ok (take n out.new)) (λ fault. huff_of bytes.now ≡ Err fault) }
+    ensures exact { MatchResult result (λ n. huff_of bytes.now ≡ Ok (take n out.new)) (λ fault. huff_of bytes.now
+        ≡ Err fault) }
 {
     let mut at = 0u64;
     let mut written = 0u32;

@@ -1,7 +1,7 @@
 //! The Huffman code by its first bits: RFC 7541, appendix B.
 //!
-//! The two tables of a number of bits have the length of the code at the front of so many bits, and its symbol. The length
-//! 0 says that the code is longer. Such fronts are the last of a table, and the next tables begin with them.
+//! The two tables of a number of bits have the length of the code at the front of so many bits, and its symbol. The
+//! length 0 says that the code is longer. Such fronts are the last of a table, and the next tables begin with them.
 
 // By 8 bits: codes of 5 to 8.
 pub(crate) const LENGTHS_8: [u8; 256] = [

@@ -38,7 +38,8 @@ fn push_bit(out: &mut [u8], at: Pending, bit: u8) -> Pending
     requires bit { bit < 2 }
     requires short { length out.old < 2 ^ 32 }
     requires room { at.written < length out.old }
-    ensures spelled { spelled out.new result.written result.held result.part ≡ spelled out.old at.written at.held at.part ++ bit ∷ [] }
+    ensures spelled { spelled out.new result.written result.held result.part
+        ≡ spelled out.old at.written at.held at.part ++ bit ∷ [] }
     ensures pending { IsPending result.held result.part }
     ensures counted { 8 * result.written + result.held ≡ 8 * at.written + at.held + 1 }
     ensures behind { drop result.written out.new ≡ drop result.written out.old }
@@ -82,7 +83,8 @@ fn push_word(out: &mut [u8], at: Pending, symbol: u8) -> Pending
     requires pending { IsPending at.held at.part }
     requires short { length out.old < 2 ^ 32 }
     requires room { 8 * at.written + at.held + length (word symbol) ≤ 8 * length out.old }
-    ensures spelled { spelled out.new result.written result.held result.part ≡ spelled out.old at.written at.held at.part ++ word symbol }
+    ensures spelled { spelled out.new result.written result.held result.part
+        ≡ spelled out.old at.written at.held at.part ++ word symbol }
     ensures pending { IsPending result.held result.part }
     ensures counted { 8 * result.written + result.held ≡ 8 * at.written + at.held + length (word symbol) }
     ensures behind { drop result.written out.new ≡ drop result.written out.old }

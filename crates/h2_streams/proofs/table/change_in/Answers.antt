@@ -2,7 +2,7 @@
 use Rattle.std.proofs.Common.{rules, sym, ◌∙◌}
 use Rattle.h2_streams.specs.Changes.{changed}
 use Rattle.h2_streams.proofs.Places.{adjusted-apart}
-use Rattle.h2_streams.proofs.Kept.{its-change, its-range, stored, stays-table, removed}
+use Rattle.h2_streams.proofs.Kept.{its-change, stored, stays-table, removed}
 use Rattle.h2_streams.proofs.table.change_in.Goals as goal
 
 pub returns-in_default-clause-items : goal.returns-in_default-clause-items

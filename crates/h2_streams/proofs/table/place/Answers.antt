@@ -1,9 +1,5 @@
-use Rattle.std.proofs.Common.{rules, ◌≡◌, ◌≤◌, ◌<◌, ℕ, Bool, true, false, nat_lt, nat_le, List, length, slice_index_or, arith}
-use Rattle.std.specs.List.Sorted.{IsPartitionedBy, IsPartitionPoint}
+use Rattle.std.proofs.Common.{rules, nat_lt, arith}
 use Rattle.std.proofs.lemmas.List.Sorted.{IsPartitionPoint-from_clause}
-use Rattle.std.proofs.lemmas.Bool.{ltb-true}
-use Rattle.h2_model.specs.declared.stream.Stream.{Stream}
-use Rattle.h2_streams.specs.Tables.{Ascends}
 use Rattle.h2_streams.proofs.Places.{parted, is_below, isnt_below}
 use Rattle.h2_streams.proofs.table.place.Goals as goal
 

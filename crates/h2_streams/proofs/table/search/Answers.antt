@@ -1,6 +1,6 @@
-use Rattle.std.proofs.Common.{rules, arith, subst, sym, ◌==◌, ◌≡◌, ◌<◌, false, slice_index_or}
+use Rattle.std.proofs.Common.{arith, subst, ◌≡◌}
 use Rattle.std.proofs.lemmas.List.{get_or_default}
-use Rattle.h2_streams.proofs.Places.{absent, at-place, unequal}
+use Rattle.h2_streams.proofs.Places.{absent, unequal}
 use Rattle.h2_streams.proofs.table.search.Goals as goal
 
 pub returns-then-at-streams-clause-none : goal.returns-then-at-streams-clause-none
