@@ -18,7 +18,7 @@ use std::alloc::{AllocError, Global};
 use std::marker::Model;
 
 /// What came of some bytes.
-#[derive(Debug, Drop)]
+#[derive(Drop)]
 pub enum Step {
     /// No frame is whole; all bytes were taken.
     More,
@@ -158,7 +158,7 @@ fn finish(kept: &mut Vec<u8>, header: Header, last: &[u8]) -> Result<Frame, Fram
 
 /// Reads frames from bytes that come in pieces. Contracts see the bytes of the frame that isn't whole yet; it keeps no
 /// others.
-#[derive(Debug, Drop)]
+#[derive(Drop)]
 pub struct FrameReader {
     kept: Vec<u8>,
 }
