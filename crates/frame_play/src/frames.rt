@@ -1,8 +1,11 @@
 //! Frames.
 
+ghost use Rattle.std.specs.Prelude.{◌≡◌, true};
+ghost use Rattle.h2_frames.specs.Copied.{IsShort};
+
 use crate::text::{push_hex, push_number};
 use anyhow::{Result, bail};
-use h2_frames::{Frame, FrameFault, FrameReader, Setting, Step};
+use h2_frames::{Frame, FrameFault, FrameReader, Setting, Step, copy_frame, frame_len};
 use std::alloc::Global;
 
 /// The most bytes of frames, and the most frames of a piece.
@@ -39,8 +42,8 @@ fn push_block(alloc: Global, told: &mut String, part: &[u8], ends: bool) -> Resu
     push_if(told, ends, " whole")
 }
 
-/// Appends a frame.
-pub fn push_frame(alloc: Global, told: &mut String, frame: &Frame) -> Result<()> {
+// Appends a frame.
+fn push_frame(alloc: Global, told: &mut String, frame: &Frame) -> Result<()> {
     match frame {
         Frame::Data(stream, content, last, len) => {
             push_numbers(alloc, told, "data", &[*stream])?;
@@ -138,5 +141,53 @@ pub fn in_any_cut(alloc: Global, told: &mut String, bytes: &[u8]) -> Result<()> 
     match come {
         Some(come) => push_number(alloc, told, " at", come),
         None => Ok(()),
+    }
+}
+
+// Whether a frame can be written.
+fn is_short(frame: &Frame) -> bool
+    ensures { result ≡ true → IsShort frame.now }
+{
+    match frame {
+        Frame::Data(_, content, _, _) => content.len() <= 16_384,
+        Frame::Headers(_, part, _, _) => part.len() <= 16_384,
+        Frame::Continuation(_, part, _) => part.len() <= 16_384,
+        Frame::Settings(list) => list.len() <= 2730,
+        _ => true,
+    }
+}
+
+// The bytes of a frame, written seven at a time.
+fn written(alloc: Global, frame: &Frame) -> Result<Vec<u8>> {
+    if !is_short(frame) {
+        bail!("too long a frame");
+    }
+    let len = frame_len(frame);
+    let mut bytes = Vec::new(alloc);
+    let mut at = 0;
+    for _ in 0..MOST {
+        if at >= len {
+            return Ok(bytes);
+        }
+        let mut room = [0u8; 7];
+        let count = copy_frame(frame, at, &mut room, 0);
+        bytes.extend_from_slice(&room[..count])?;
+        at += count;
+    }
+    bail!("too many bytes")
+}
+
+/// Tells a frame, and the bytes that are written for it.
+pub fn rewritten(alloc: Global, told: &mut String, bytes: &[u8]) -> Result<()> {
+    if bytes.len() > MOST {
+        bail!("too many bytes");
+    }
+    let mut reader = FrameReader::new(alloc)?;
+    match reader.feed(bytes) {
+        Ok(Step::Got(frame, _)) => {
+            push_frame(alloc, told, &frame)?;
+            push_hex(alloc, told, "; written", written(alloc, &frame)?.as_slice())
+        }
+        _ => bail!("no frame"),
     }
 }

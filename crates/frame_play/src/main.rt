@@ -16,6 +16,7 @@
 //! | `write FIELDS` | the encoder's next block |
 //! | `write-and-read FIELDS` | that block, and the fields that the decoder reads from it |
 //! | `frames BYTES` | a new reader gets the bytes in pieces of each length: the frames that they are, and how many bytes are left, or the code of a refusal and `at` which byte it comes, byte by byte |
+//! | `rewrite BYTES` | the frame that the bytes are, and the bytes that are written for it, seven at a time |
 //! | `reader` | begins a reader of frames |
 //! | `feed BYTES` | that reader gets the bytes as one piece: the same, and how many bytes it keeps |
 //! | `# ..` | a heading |

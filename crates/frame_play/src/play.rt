@@ -19,6 +19,7 @@ pub fn line(
     match word {
         "#" => told.push_str(line)?,
         "frames" => frames::in_any_cut(alloc, &mut told, bytes_of(alloc, text)?.as_slice())?,
+        "rewrite" => frames::rewritten(alloc, &mut told, bytes_of(alloc, text)?.as_slice())?,
         "reader" => {
             *reader = FrameReader::new(alloc)?;
             told.push_str(line)?;

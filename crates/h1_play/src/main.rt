@@ -15,7 +15,7 @@
 //!
 //! A reader is `request`, `response`, `response-to-head`, or of a body: `body-none`, `body-chunked`, `body-close` or
 //! `body-N` of so many bytes. Fields are `NAME=VALUE` with a space between two. In a text, `\r`, `\n`, `\t` and `\0`
-//! are bytes as in Rust, and `<N PART>` is a part so many times.
+//! are bytes as in Rust, `\s` is a space, and `<N PART>` is a part so many times.
 #![tactic(auto)]
 
 mod cuts;

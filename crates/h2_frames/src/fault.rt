@@ -4,7 +4,7 @@ use std::alloc::AllocError;
 use thiserror::Error;
 
 /// Why no frame is given.
-#[derive(Clone, Copy, Debug, PartialEq, Eq, Error)]
+#[derive(Clone, Copy, Debug, Error)]
 pub enum FrameFault {
     /// The bytes are no frame: the code for the connection's end, one of `codes`.
     #[error("a frame is refused with the code {0}")]

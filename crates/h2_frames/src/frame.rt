@@ -4,7 +4,7 @@ use pb_wire::{Blob, Duplicate, Items};
 use std::alloc::AllocError;
 
 /// One setting: RFC 9113 section 6.5.1.
-#[derive(Clone, Copy, Debug, PartialEq, Eq)]
+#[derive(Clone, Copy)]
 pub struct Setting {
     pub identifier: u16,
     pub value: u32,
@@ -20,7 +20,7 @@ impl Duplicate for Setting {
 pub type SettingList = Items<Setting>;
 
 /// A frame. The first number is the stream, where there is one.
-#[derive(Debug, Drop)]
+#[derive(Drop)]
 pub enum Frame {
     /// The content, whether the stream ends, and the payload's length with padding, which counts for windows.
     Data(u32, Blob, bool, u32),

@@ -42,8 +42,6 @@ mod push_promise;
 mod reader;
 mod rst_stream;
 mod settings;
-#[cfg(test)]
-mod tests;
 pub mod types;
 mod window_update;
 mod write;

@@ -18,7 +18,7 @@ use std::alloc::{AllocError, Global};
 use std::marker::Model;
 
 /// What came of some bytes.
-#[derive(Debug, Drop)]
+#[derive(Drop)]
 pub enum Step {
     /// No frame is whole; all bytes were taken.
     More,
