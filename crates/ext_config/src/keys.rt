@@ -32,6 +32,7 @@ pub(crate) fn found<'a>(config: &'a Value, section: Section, name: &str) -> Opti
         Section::Modes => config.get("processing_mode"),
         Section::Rules => config.get("mutation_rules"),
     };
+    // Prover: `?` on an `Option` would leave a goal open.
     let Some(object) = object else {
         return None;
     };

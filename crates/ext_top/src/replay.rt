@@ -42,6 +42,7 @@ pub(crate) fn replay<S: Source, K: Sink>(alloc: Global, source: &mut S, sink: &m
 {
     let mut stage = Stage::First;
     let mut size = 0;
+    // Prover: the label names the loop in its proof, and its measure is a count, since a source need not end.
     'lines: for count in 0..u64::MAX {
         if at_end(&stage) {
             return Status::Done;

@@ -98,6 +98,7 @@ pub(crate) fn frames_text(alloc: Global, bytes: &[u8]) -> Result<Vec<u8>, AllocE
     let mut reader = FrameReader::new(alloc)?;
     let mut text = Vec::new(alloc);
     let mut rest = bytes;
+    // Prover: the label names the loop in its proof.
     'frames: while !rest.is_empty() {
         match next(&mut reader, rest)? {
             Begin::Frame(len) => {

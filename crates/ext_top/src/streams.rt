@@ -47,6 +47,7 @@ pub(crate) fn read_line<S: Source>(
     ensures cause { IsErrOf result Stop.Read → Rose (S.faults source.old) (S.faults source.new) }
 {
     let mut line = Vec::new(alloc);
+    // Prover: the label names the loop in its proof.
     'bytes: while line.len() < most {
         match read_byte(source) {
             Ok(Some(b'\n')) => return Ok(Some(line)),

@@ -119,6 +119,7 @@ fn ending(text: &[u8]) -> Option<bool>
 pub fn arrival(alloc: Global, rest: Option<&[u8]>) -> Result<Option<(u32, Blob)>, AllocError>
     ensures { IfOk result (λ o. o ≡ two_more exchange_of bytes_of (option_copied rest.entry)) }
 {
+    // Prover: `?` on an `Option` would leave a goal open, here and below.
     let Some(text) = rest else {
         return Ok(None);
     };
