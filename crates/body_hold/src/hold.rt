@@ -44,8 +44,13 @@ impl Model for Hold {
 
     ghost Value = { Held };
 
-    ghost view = { λ h. record { limit = h.limit; answer = h.answer; hand = h.hand.bytes;
-        lent = cut_by h.lengths.items h.lent.bytes; out = h.out.bytes } };
+    ghost view = { λ h. record {
+      limit = h.limit;
+      answer = h.answer;
+      hand = h.hand.bytes;
+      lent = cut_by h.lengths.items h.lent.bytes;
+      out = h.out.bytes;
+    } };
 
     ghost invariant = { λ h. IsReserved h.limit h.answer h.hand h.lent h.lengths h.out };
 }

@@ -19,7 +19,12 @@ pub fn line(rt: &HostRuntime, reader: &mut CallReader, line: &str) -> Result<()>
         }
         "head" => block(rt, reader, operands, false),
         "last" => block(rt, reader, operands, true),
-        "data" => give(rt, reader, bytes_of(rt.alloc(), operands)?.as_slice(), false),
+        "data" => give(
+            rt,
+            reader,
+            bytes_of(rt.alloc(), operands)?.as_slice(),
+            false,
+        ),
         "end" => give(rt, reader, bytes_of(rt.alloc(), operands)?.as_slice(), true),
         "bytes" => give_each(rt, reader, bytes_of(rt.alloc(), operands)?.as_slice()),
         "held" => tell(rt, "held", reader.held()),
@@ -56,7 +61,11 @@ fn frame(rt: &HostRuntime, digits: &str) -> Result<()> {
     if message.len() > MOST {
         bail!("a message is too long");
     }
-    tell_bytes(rt, "frame", frame_of(rt.alloc(), message.as_slice())?.bytes())
+    tell_bytes(
+        rt,
+        "frame",
+        frame_of(rt.alloc(), message.as_slice())?.bytes(),
+    )
 }
 
 fn block(rt: &HostRuntime, reader: &mut CallReader, words: &str, ends: bool) -> Result<()> {

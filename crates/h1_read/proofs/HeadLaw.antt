@@ -213,4 +213,3 @@ by_head_line {A} parse bytes = by (by_first_line bytes)
     by (inr e) = inr (e, ap next e)
 
 -- What was read stays read
-
