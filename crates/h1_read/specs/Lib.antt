@@ -1,5 +1,6 @@
 pub mod Agreement
 pub mod Limits
+pub mod Places
 pub mod Parsed
 pub mod Sections
 pub mod HeadParts
