@@ -26,6 +26,7 @@ pub mod Kept
 pub mod SectionLocal
 pub mod PlaceHeads
 pub mod FeedLaw
+pub mod TrailerLaw
 pub mod BodyMoves
 pub mod StepLemmas
 pub mod WrittenSections

@@ -14,7 +14,7 @@ use Rattle.h1_read.specs.declared.place.Place.{Place}
 use Rattle.h1_read.specs.declared.place.Place.TheVariants.{Before, BeforeCr, FirstLine, FirstEnd, Fields, Ended}
 use Rattle.h1_read.specs.Places.{place_on, empty_on, places, is_stop, is_quiet}
 use Rattle.h1_read.specs.Steps.{IsOpen, IsLeft}
-use Rattle.h1_read.proofs.PlaceLines.{IsIn, by_kind, section_goes_on}
+use Rattle.h1_read.proofs.PlaceLines.{IsIn, by_kind, section_goes_on, quiet_parts}
 use Rattle.h1_read.specs.Limits.{is_empty_end}
 use Rattle.h1_read.proofs.HeadLaw.{not_empty}
 use Rattle.h1_read.proofs.ByLimit.{limited_short}
@@ -184,10 +184,6 @@ byte_goes_on {A} parse kept b e quiet = by ((told (kept ++ b ∷ [])).here)
         behind_first (c ∷ rest) e = refl
 
 -- Bytes in which the parser has nothing to read
-
-quiet_parts : (t q : Bool) → (if t then false else q) ≡ true → (t ≡ false) × (q ≡ true)
-quiet_parts true q e = absurd cc
-quiet_parts false q e = (refl, e)
 
 lines_go_on : {A : Type 0} (parse : List ℕ → Option A) (kept more : List ℕ) → head_lines parse kept ≡ Partial → is_quiet (places Before kept) more ≡ true
     → head_lines parse (kept ++ more) ≡ Partial

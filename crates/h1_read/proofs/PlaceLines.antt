@@ -1,6 +1,6 @@
 -- Where nothing ends a section or makes it bad, it goes on.
 use Rattle.std.proofs.Common.{inl, inr, sym, ◌∙◌, ap, subst, refl, arith}
-use Rattle.std.specs.Prelude.{ℕ, zero, suc, ◌≡◌, ◌⊎◌, ◌-◌, Bool, true, false, List, [], ◌∷◌, ◌==◌}
+use Rattle.std.specs.Prelude.{ℕ, zero, suc, ◌≡◌, ◌⊎◌, ◌-◌, Bool, true, false, List, [], ◌∷◌, ◌==◌, if◌then◌else◌}
 use Rattle.std.proofs.lemmas.Bool.Decides.{nat_tests}
 use Rattle.ext_msgs.specs.declared.lists.Field.{Field}
 use Rattle.http_model.specs.Bytes.{is_token_byte, is_value_byte}
@@ -11,7 +11,7 @@ use Rattle.h1_read.specs.declared.place.Shape.{Shape}
 use Rattle.h1_read.specs.declared.place.Shape.TheVariants.{Start, InName, InValue, AtEmptyEnd, AtEnd}
 use Rattle.h1_read.specs.declared.place.Place.{Place}
 use Rattle.h1_read.specs.declared.place.Place.TheVariants.{Fields, Ended}
-use Rattle.h1_read.specs.Places.{line_on, end_on, places}
+use Rattle.h1_read.specs.Places.{place_on, line_on, end_on, places, is_stop, is_quiet}
 
 abbrev shape_of : Shape → FieldShape
 shape_of Start = lines.AtStart
@@ -229,3 +229,23 @@ section_goes_on bad (suc left) bytes h =
 
     inside : (w : IsField (suc left) Start bytes) → IsIn (places (Fields left Start) w.rest)
     inside w = subst (λ n. IsIn (places (Fields n Start) w.rest)) (sym (same left w.others w.one)) (subst IsIn w.goes_on h)
+
+-- Trailer sections
+
+pub quiet_parts : (t q : Bool) → (if t then false else q) ≡ true → (t ≡ false) × (q ≡ true)
+quiet_parts true q e = absurd cc
+quiet_parts false q e = (refl, e)
+
+pub quiet_end : (p : Place) (b : ℕ) (more : List ℕ) → is_quiet p (b ∷ more) ≡ true → is_stop (places p (b ∷ more)) ≡ false
+quiet_end p b [] q = (quiet_parts (is_stop (place_on p b)) true q).0
+quiet_end p b (c ∷ more) q =
+    quiet_end (place_on p b) c more (quiet_parts (is_stop (place_on p b)) (is_quiet (place_on p b) (c ∷ more)) q).1
+
+pub is_in : (left : ℕ) (s : Shape) (bytes : List ℕ) → is_stop (places (Fields left s) bytes) ≡ false → IsIn (places (Fields left s) bytes)
+is_in left s bytes e = by (by_kind left s bytes)
+  where
+    by : IsIn (places (Fields left s) bytes) ⊎ (places (Fields left s) bytes ≡ Ended) → IsIn (places (Fields left s) bytes)
+    by (inl h) = h
+    by (inr h) =
+        let both : true ≡ false = ap is_stop (sym h) ∙ e in
+        absurd cc

@@ -53,6 +53,10 @@ abbrev pub places : Place → List ℕ → Place
 places p [] = p
 places p (b ∷ bytes) = places (place_on p b) bytes
 
+-- before a trailer section
+abbrev pub section_start : Place
+section_start = Fields field_limit Start
+
 -- the parser has to read up to here
 abbrev pub is_stop : Place → Bool
 is_stop FirstEnd = true

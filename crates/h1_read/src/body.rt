@@ -33,13 +33,13 @@ pub struct BodyReader {
 
 impl Model for BodyReader {
     ghost use Rattle.h1_read.specs.Remaining.{Rest, IsBegun};
-    ghost use Rattle.h1_read.specs.Stages.{rest_of};
+    ghost use Rattle.h1_read.specs.Stages.{rest_of, IsAt};
 
     ghost Value = { Rest };
 
     ghost view = { λ r. rest_of r.stage r.kept.items };
 
-    ghost invariant = { λ r. IsBegun (rest_of r.stage r.kept.items) };
+    ghost invariant = { λ r. IsBegun (rest_of r.stage r.kept.items) × IsAt r.stage r.kept.items };
 }
 
 impl BodyReader {
@@ -89,7 +89,7 @@ impl BodyReader {
             Stage::Line => Err(H1Fault::CutShort),
             Stage::Chunk(_) => Err(H1Fault::CutShort),
             Stage::Lf => Err(H1Fault::CutShort),
-            Stage::Trailers => Err(H1Fault::CutShort),
+            Stage::Trailers(_) => Err(H1Fault::CutShort),
             Stage::Close => Ok(()),
             Stage::Over => Ok(()),
             Stage::Bad => Err(H1Fault::BadChunk),
@@ -103,7 +103,7 @@ impl BodyReader {
     {
         match self.stage {
             Stage::Line => self.kept.len() as u64,
-            Stage::Trailers => self.kept.len() as u64,
+            Stage::Trailers(_) => self.kept.len() as u64,
             _ => 0,
         }
     }

@@ -5,6 +5,7 @@ ghost use Rattle.http_model.specs.Bodies.{chunk_end};
 ghost use Rattle.h1_read.specs.Stages.{end_chunk, EndSeen};
 
 use crate::piece::Piece;
+use crate::place::Place;
 use std::alloc::AllocError;
 
 /// Where a reader stands in a body.
@@ -27,8 +28,8 @@ pub(crate) enum Stage {
     Chunk(u64),
     /// Before the LF of a chunk's end.
     Lf,
-    /// In the trailer section; its bytes so far are kept.
-    Trailers,
+    /// In the trailer section, here; its bytes so far are kept.
+    Trailers(Place),
     /// The body ends with the connection.
     Close,
     /// The body is whole.

@@ -6,12 +6,13 @@ ghost use Rattle.h1_read.specs.Sections.{trailer_section};
 ghost use Rattle.http_model.specs.Reading.{Partial};
 ghost use Rattle.h1_read.specs.Remaining as rest;
 ghost use Rattle.h1_read.specs.Remaining.{Rest, GivesContent, IsBegun};
-ghost use Rattle.h1_read.specs.Stages.{rest_of, Feeds, KeepsNone, BodySteps, KeepsBegun, OnMemory, StartsWithin, shifted};
+ghost use Rattle.h1_read.specs.Stages.{rest_of, Feeds, KeepsNone, BodySteps, KeepsBegun, IsAt, OnMemory, StartsWithin, shifted};
 ghost use Rattle.h1_read.specs.declared.body_stage.Stage.TheVariants as stage;
 
 use crate::body_stage::{ChunkEnd, Fed, Stage, Stop, end_of_chunk};
 use crate::chunk_line::{SizeLine, keep_line};
 use crate::piece::Piece;
+use crate::place::{Place, Scan, next_stop, section_place};
 use crate::section::{SectionRead, read_section};
 use crate::trailers::keep_section;
 use ext_msgs::FieldList;
@@ -132,7 +133,7 @@ fn section(alloc: Global, kept: &mut Vec<u8>, bytes: &[u8]) -> Result<Fed, Stop>
             begun.extend_from_slice(bytes)?;
             *kept = begun;
             Ok(Fed {
-                stage: Stage::Trailers,
+                stage: Stage::Trailers(section_place(bytes)),
                 piece: Piece::More,
                 used: bytes.len(),
             })
@@ -142,14 +143,28 @@ fn section(alloc: Global, kept: &mut Vec<u8>, bytes: &[u8]) -> Result<Fed, Stop>
     }
 }
 
-/// The trailer section, of which the kept bytes came before.
-pub(crate) fn trailers(alloc: Global, kept: &mut Vec<u8>, bytes: &[u8]) -> Result<Fed, Stop>
+/// The trailer section, of which the kept bytes came before, up to this place.
+pub(crate) fn trailers(
+    alloc: Global,
+    place: Place,
+    kept: &mut Vec<u8>,
+    bytes: &[u8],
+) -> Result<Fed, Stop>
     requires begun { trailer_section kept.old.items ≡ Partial }
+    requires here { IsAt (stage.Trailers place) kept.old.items }
     requires short { length bytes.now < 2 ^ 32 }
     ensures steps { BodySteps (rest.Trailers kept.old.items) bytes.now kept.new.items result }
     ensures begun { KeepsBegun result kept.new.items }
     ensures memory { OnMemory result (kept.new.items ≡ kept.old.items) }
 {
+    if let Scan::Quiet(end) = next_stop(place, kept.len(), bytes) {
+        kept.extend_from_slice(bytes)?;
+        return Ok(Fed {
+            stage: Stage::Trailers(end),
+            piece: Piece::More,
+            used: bytes.len(),
+        });
+    }
     match keep_section(alloc, kept, bytes)? {
         SectionRead::Whole(trailers, used) => Ok(Fed {
             stage: Stage::Over,
@@ -157,7 +172,7 @@ pub(crate) fn trailers(alloc: Global, kept: &mut Vec<u8>, bytes: &[u8]) -> Resul
             used: used as usize,
         }),
         SectionRead::Partial => Ok(Fed {
-            stage: Stage::Trailers,
+            stage: Stage::Trailers(section_place(kept.as_slice())),
             piece: Piece::More,
             used: bytes.len(),
         }),
@@ -279,6 +294,7 @@ pub(crate) fn step(
     bytes: &[u8],
 ) -> Result<Fed, Stop>
     requires begun { IsBegun (rest_of stage kept.old.items) }
+    requires here { IsAt stage kept.old.items }
     requires short { length bytes.now < 2 ^ 32 }
     ensures steps { BodySteps (rest_of stage kept.old.items) bytes.now kept.new.items result }
     ensures begun { KeepsBegun result kept.new.items }
@@ -290,7 +306,7 @@ pub(crate) fn step(
         Stage::Line => line(alloc, kept, bytes),
         Stage::Chunk(left) => chunk(alloc, kept, left, bytes),
         Stage::Lf => lf(alloc, kept, bytes),
-        Stage::Trailers => trailers(alloc, kept, bytes),
+        Stage::Trailers(place) => trailers(alloc, place, kept, bytes),
         Stage::Over => Ok(Fed {
             stage: Stage::Over,
             piece: Piece::End(FieldList::new(alloc)),

@@ -4,7 +4,7 @@
 ghost use Rattle.std.specs.Prelude.{◌≡◌, ◌<◌};
 ghost use Rattle.http_model.specs.Bytes.{is_token_byte as token_byte, is_value_byte as value_byte};
 ghost use Rattle.h1_read.specs.Places.{place_on, line_on, start_on, name_on, value_on, end_on, first_on, empty_on};
-ghost use Rattle.h1_read.specs.Places.{places, is_stop, IsScan, IsNextStop};
+ghost use Rattle.h1_read.specs.Places.{places, section_start, is_stop, IsScan, IsNextStop};
 
 use crate::scan::{MAX_FIELDS, MAX_HEAD};
 use httparse::{is_header_name_token, is_header_value_token};
@@ -183,6 +183,13 @@ pub fn place_behind(place: Place, bytes: &[u8]) -> Place
         now = place_on(now, bytes[at]);
     }
     now
+}
+
+/// Where the bytes of a trailer section end.
+pub fn section_place(bytes: &[u8]) -> Place
+    ensures { result ≡ places section_start bytes.now }
+{
+    place_behind(Place::Fields(MAX_FIELDS, Shape::Start), bytes)
 }
 
 /// Looks for the first byte behind a place that the parser has to read.
