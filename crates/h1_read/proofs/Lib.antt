@@ -27,6 +27,7 @@ pub mod SectionLocal
 pub mod PlaceHeads
 pub mod FeedLaw
 pub mod TrailerLaw
+pub mod ChunkParts
 pub mod BodyMoves
 pub mod StepLemmas
 pub mod WrittenSections

@@ -45,7 +45,7 @@ data Moves (left : ℕ) (s : Shape) (b : ℕ) : Type 0 where
   EndsField : (m : ℕ) → (b == 10) ≡ true → line_on left s b ≡ Fields m Start → left ≡ suc m → IsFieldEnd (shape_of s) → Moves left s b
   Stops : line_on left s b ≡ Ended → Moves left s b
 
-not_lf : (test : ℕ → Bool) → test 10 ≡ false → (b : ℕ) → test b ≡ true → (b == 10) ≡ false
+pub not_lf : (test : ℕ → Bool) → test 10 ≡ false → (b : ℕ) → test b ≡ true → (b == 10) ≡ false
 not_lf test fails b passes = by (b == 10) refl
   where
     by : (t : Bool) → (b == 10) ≡ t → t ≡ false
@@ -55,7 +55,7 @@ not_lf test fails b passes = by (b == 10) refl
         let both : true ≡ false = sym passes ∙ ap test same ∙ fails in
         absurd cc
 
-other_lf : (b c : ℕ) → (c == 10) ≡ false → (b == c) ≡ true → (b == 10) ≡ false
+pub other_lf : (b c : ℕ) → (c == 10) ≡ false → (b == c) ≡ true → (b == 10) ≡ false
 other_lf b c e f = by (b == 10) refl
   where
     by : (t : Bool) → (b == 10) ≡ t → t ≡ false

@@ -1,16 +1,9 @@
 -- Where nothing ends a trailer section or makes it bad, it goes on.
-use Rattle.std.proofs.Common.{sym, ◌∙◌, ap, subst, arith, append-nil, length-append}
+use Rattle.std.proofs.Common.{sym, ◌∙◌, ap, arith, append-nil, length-append}
 use Rattle.std.specs.Prelude.{ℕ, ◌≡◌, ◌+◌, ◌<◌, true, List, [], ◌∷◌, ◌++◌, length}
 use Rattle.http_model.specs.Reading.{Partial, BadChunk, LongHead}
 use Rattle.http_model.specs.Lines.{section}
 use Rattle.http_model.specs.Heads.{head_limit, field_limit}
-use Rattle.http_model.specs.declared.types.Length.{Length}
-use Rattle.http_model.specs.declared.types.Length.TheVariants as body_length
-use Rattle.h1_read.specs.Remaining.{Rest, at_start}
-use Rattle.h1_read.specs.Remaining as rest
-use Rattle.h1_read.specs.Stages.{rest_of, IsAt}
-use Rattle.h1_read.specs.declared.body_stage.Stage.{Stage}
-use Rattle.h1_read.specs.declared.body_stage.Stage.TheVariants as stage
 use Rattle.h1_read.specs.declared.place.Shape.TheVariants.{Start}
 use Rattle.h1_read.specs.declared.place.Place.{Place}
 use Rattle.h1_read.specs.Places.{places, section_start, is_stop, is_quiet, IsQuiet}
@@ -42,22 +35,3 @@ quiet_on old bytes all place now o e q h f =
       begun = ap trailer_section f ∙ more;
       here = q.ends ∙ ap (λ p. places p bytes) e ∙ sym (places-append section_start old bytes) ∙ ap (places section_start) (sym f);
     }
-
--- no body begins in its trailer section
-
-never_first : (kept : List ℕ) (n : Length) → ◌≡◌ {A = Rest} (rest.Trailers kept) (at_start n) → ⊥
-never_first kept body_length.NoBody e = cc
-never_first kept (body_length.Known n) e = cc
-never_first kept body_length.Chunked e = cc
-never_first kept body_length.Close e = cc
-
-pub start_at : (s : Stage) (n : Length) (kept : List ℕ) → rest_of s [] ≡ at_start n → IsAt s kept
-start_at (stage.Known m) n kept e = tt
-start_at stage.Line n kept e = tt
-start_at (stage.Chunk m) n kept e = tt
-start_at stage.Lf n kept e = tt
-start_at (stage.Trailers p) n kept e = absurd (never_first [] n e)
-start_at stage.Close n kept e = tt
-start_at stage.Over n kept e = tt
-start_at stage.Bad n kept e = tt
-start_at stage.Long n kept e = tt

@@ -10,6 +10,7 @@ pub mod Messages
 pub mod Steps
 pub mod HeadReading
 pub mod SizeLine
+pub mod ChunkPlaces
 pub mod KeptSections
 pub mod Remaining
 pub mod Stages

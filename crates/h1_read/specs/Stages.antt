@@ -3,6 +3,8 @@ use Rattle.std.specs.Prelude.{ℕ, ◌≡◌, ◌≤◌, ◌+◌, false, List, [
 use Rattle.http_model.specs.Reading.{BadChunk, LongHead}
 use Rattle.http_model.specs.Bodies as bodies
 use Rattle.http_model.specs.Bodies.{Chunk, Begun, Wrong, faulty}
+use Rattle.h1_read.specs.ChunkPlaces.{chunk_places}
+use Rattle.h1_read.specs.declared.chunk_line.ChunkPlace.TheVariants.{Size}
 use Rattle.h1_read.specs.Places.{places, section_start}
 use Rattle.h1_read.specs.Remaining as rest
 use Rattle.h1_read.specs.Remaining.{Rest, IsBegun, remaining, FedPiece}
@@ -20,7 +22,7 @@ use Rattle.h1_read.specs.declared.body_stage.ChunkEnd.TheVariants as end
 
 abbrev pub rest_of : Stage → List ℕ → Rest
 rest_of (stage.Known n) kept = rest.Known n
-rest_of stage.Line kept = rest.Line kept
+rest_of (stage.Line place) kept = rest.Line kept
 rest_of (stage.Chunk n) kept = rest.Chunk n
 rest_of stage.Lf kept = rest.Lf
 rest_of (stage.Trailers place) kept = rest.Trailers kept
@@ -36,8 +38,9 @@ BodySteps before bytes new (Err stop.Bad) = remaining before false bytes ≡ fau
 BodySteps before bytes new (Err stop.Long) = remaining before false bytes ≡ faulty [] LongHead
 BodySteps before bytes new (Err stop.Memory) = Unit {0}
 
--- a trailer section so far ends at the place
+-- what is kept of a chunk line or of a trailer section ends at the place
 abbrev pub IsAt : Stage → List ℕ → Type 0
+IsAt (stage.Line place) kept = place ≡ chunk_places (Size 0) kept
 IsAt (stage.Trailers place) kept = place ≡ places section_start kept
 IsAt _ kept = Unit {0}
 

@@ -1,4 +1,4 @@
-use Rattle.std.proofs.Common.{◌∙◌, ◌≡◌, ◌<◌, ◌++◌, [], length, arith, ap, subst, sym, refl}
+use Rattle.std.proofs.Common.{◌≡◌, ◌++◌, [], length, arith, subst, sym, refl}
 use Rattle.http_model.specs.Reading.{BadChunk, LongHead}
 use Rattle.h1_read.specs.Remaining as rest
 use Rattle.h1_read.specs.Remaining.{GivesContent}
@@ -32,11 +32,11 @@ returns-in-Quiet-clause-steps c =
     let bytes = c.args.bytes.now in
     let kept : c.extend_from_slice.new.self.items ≡ old ++ bytes = c.in_ok-extend_from_slice.ensures.items in
     let on = quiet_on old bytes c.extend_from_slice.new.self.items c.args.place c.in-Quiet.end c.requires.begun c.requires.here c.in-Quiet.ensures.0
-        (omega (arith, c.len.ensures, c.in-Quiet.ensures.1)) kept in
+    (omega (arith, c.len.ensures, c.in-Quiet.ensures.1)) kept in
     (refl, subst (λ l. GivesContent (rest.Trailers old) bytes (length bytes) [] (rest.Trailers l)) (sym kept) (section_goes_on old bytes), section_partial old bytes on.open_still)
 
 pub returns-in-Quiet-clause-begun : goal.returns-in-Quiet-clause-begun
 returns-in-Quiet-clause-begun c =
     let on = quiet_on c.args.kept.now.items c.args.bytes.now c.extend_from_slice.new.self.items c.args.place c.in-Quiet.end c.requires.begun c.requires.here c.in-Quiet.ensures.0
-        (omega (arith, c.len.ensures, c.in-Quiet.ensures.1)) c.in_ok-extend_from_slice.ensures.items in
+    (omega (arith, c.len.ensures, c.in-Quiet.ensures.1)) c.in_ok-extend_from_slice.ensures.items in
     (on.begun, on.here)
