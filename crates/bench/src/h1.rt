@@ -1,4 +1,4 @@
-//! HTTP/1.1: request heads of two sizes, and chunked bodies in feeds of several lengths.
+//! HTTP/1.1: request heads of two sizes, and chunked bodies, in feeds of several lengths.
 
 use crate::table::{nanos_since, print_row};
 use anyhow::{Result, bail};
@@ -25,16 +25,28 @@ fn head(alloc: Global, lines: u32) -> Result<Vec<u8>> {
     Ok(head)
 }
 
-// The least time to read a head in one feed, of so many.
-fn read_head(rt: &HostRuntime, head: &[u8], count: u32) -> Result<u64> {
-    if head.len() >= 0x1_0000_0000 {
-        bail!("a head is too long");
+// Whether a reader reads a head in feeds of so many bytes at most.
+fn is_read(reader: &mut HeadReader, head: &[u8], most: usize) -> Result<bool> {
+    for piece in head.chunks(most.max(1)) {
+        if piece.len() >= 0x1_0000_0000 {
+            bail!("a piece is too long");
+        }
+        match reader.feed(piece) {
+            Ok(None) => (),
+            Ok(Some(_)) => return Ok(true),
+            Err(_) => return Ok(false),
+        }
     }
-    let mut reader = HeadReader::request(rt.alloc())?;
+    Ok(false)
+}
+
+// The least time to read a head in such feeds, of so many.
+fn read_head(rt: &HostRuntime, head: &[u8], most: usize, count: u32) -> Result<u64> {
     let mut least = u64::MAX;
     for _ in 0..count {
+        let mut reader = HeadReader::request(rt.alloc())?;
         let start = Instant::now(rt)?;
-        let is_whole = matches!(reader.feed(head), Ok(Some(_)));
+        let is_whole = is_read(&mut reader, head, most)?;
         least = least.min(nanos_since(rt, start)?);
         if !is_whole {
             bail!("a head isn't read");
@@ -43,13 +55,15 @@ fn read_head(rt: &HostRuntime, head: &[u8], count: u32) -> Result<u64> {
     Ok(least)
 }
 
-/// A row a size: the bytes of the head.
+/// A row a size, of one feed, and then of feeds of one byte: the bytes of the head.
 pub fn measure_heads(rt: &HostRuntime) -> Result<()> {
-    for (lines, count) in [(1, 16_384), (80, 1024)] {
-        let head = head(rt.alloc(), lines)?;
-        let size = head.len() as u64;
-        let nanos = read_head(rt, head.as_slice(), count)?;
-        print_row(rt, "head", size, nanos, size)?;
+    for (name, most) in [("head", usize::MAX), ("head by byte", 1)] {
+        for (lines, count) in [(1, 16_384), (80, 1024)] {
+            let head = head(rt.alloc(), lines)?;
+            let size = head.len() as u64;
+            let nanos = read_head(rt, head.as_slice(), most, count)?;
+            print_row(rt, name, size, nanos, size)?;
+        }
     }
     Ok(())
 }

@@ -18,7 +18,7 @@ const LIST: &str = "\
 read_answer   an answer of 1 KiB, 64 KiB and 1 MiB is read, a byte
 write_answer  the same is written, a byte
 queues        64 MiB go through a queue of 64 KiB in pieces of 1, 100 and 16,384 bytes, a byte
-heads         request heads of about 200 bytes and 8 KiB are read, a byte
+heads         request heads of about 200 bytes and 8 KiB are read, in one feed and in feeds of one byte, a byte
 bodies        16 MiB in chunks of 16 KiB and then of 1 byte are read, in feeds of several lengths, a byte
 frames        DATA frames of 16 KiB are read, a byte
 calls         messages of 20 bytes and then of 64 KiB are read, in feeds of 1, 100 and 16,384 bytes, a byte

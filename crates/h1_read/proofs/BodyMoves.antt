@@ -1,5 +1,5 @@
 -- What remains of a body, as its bytes come.
-use Rattle.std.proofs.Common.{sym, ◌∙◌, ap, subst, refl, arith, append_assoc, append-nil, length-append, length-drop, eqb-true, drop-drop, le-leb, leb-true, leb-false, ltb-true, ltb-false, le-ltb, lt-ltb, take_all}
+use Rattle.std.proofs.Common.{sym, ◌∙◌, ap, subst, refl, arith, append_assoc, append-nil, length-append, length-drop, eqb-true, drop-drop, le-leb, leb-true, leb-false, ltb-true, ltb-false, le-ltb, lt-ltb}
 use Rattle.std.proofs.Math.Seq.{take-add}
 use Rattle.std.proofs.lemmas.List.{drop-append-le, take-append-le}
 use Rattle.h1_read.proofs.ByLimit.{lt-leb}

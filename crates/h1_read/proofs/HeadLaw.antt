@@ -1,18 +1,15 @@
 -- A head is empty lines, a first line and a section.
 use Rattle.std.proofs.Common.{inl, inr, sym, ◌∙◌, ap, subst, refl, arith, append_assoc, eqb-true}
-use Rattle.std.specs.Prelude.{ℕ, ◌≡◌, ◌⊎◌, ◌<◌, Bool, true, false, not, ◌&&◌, ◌||◌, List, [], ◌∷◌, ◌++◌, length, Option, Some, None, ◌==◌, bytes_eq}
+use Rattle.std.specs.Prelude.{ℕ, ◌≡◌, ◌⊎◌, ◌<◌, Bool, true, false, not, ◌&&◌, ◌||◌, List, [], ◌∷◌, ◌++◌, length, Option, Some, ◌==◌, bytes_eq}
 use Rattle.std.specs.List.{list_all, AllByRecursion}
 use Rattle.http_model.specs.Bytes.{is_empty}
 use Rattle.http_model.specs.Reading.{Reading, Whole, Partial, BadHead, onward}
 use Rattle.http_model.specs.Lines.{line, first_line, begins_with_lf, without_cr, section}
 use Rattle.http_model.specs.Heads.{field_limit, fields_behind, head_lines}
-use Rattle.http_model.proofs.Stable.{IsStable, onward-stays}
-use Rattle.http_model.proofs.LinesStable.{first_line-stays, section-stays}
 use Rattle.ext_msgs.specs.declared.lists.Field as model
 use Rattle.httparse.specs.Grammar.{LineEnd, crlf, lf, print_end, print_blank}
 use Rattle.httparse.specs.Pieces.{Stops, is_newline}
 use Rattle.h1_read.proofs.LineParts.{Lacks, Lacks-append, line_at, line_open, FirstOf, by_line_feed, cr_of, end_is, cr_lacks, without_cr-end, Ended, ended}
-use Rattle.http_model.proofs.HeadsStable.{fields_behind-stays, head_lines-stays}
 
 -- Tests
 

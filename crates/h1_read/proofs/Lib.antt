@@ -7,6 +7,7 @@ pub mod HeadLaw
 pub mod RequestLaw
 pub mod ResponseLaw
 pub mod LineScan
+pub mod PlaceLines
 pub mod ParsedLaw
 pub mod TextTests
 pub mod Limited
@@ -23,6 +24,10 @@ pub mod ChunkLines
 pub mod ByLimit
 pub mod Kept
 pub mod SectionLocal
+pub mod PlaceHeads
+pub mod FeedLaw
+pub mod TrailerLaw
+pub mod ChunkParts
 pub mod BodyMoves
 pub mod StepLemmas
 pub mod WrittenSections

@@ -3,7 +3,7 @@ use Rattle.std.proofs.Common.{◌≡◌, ◌≢◌, ℕ, zero, suc, ◌+◌, ◌
 use Rattle.std.proofs.lemmas.List.{drop_more, drop_all, take-append-drop, take_more, take_all}
 use Rattle.std.proofs.lemmas.Bool.Decides.{nat_tests}
 use Rattle.http_model.specs.Reading.{Reading, Partial}
-use Rattle.http_model.specs.Lines.{line, first_line, begins_with_lf}
+use Rattle.http_model.specs.Lines.{line, first_line}
 use Rattle.h1_read.specs.Limits.{lines_len, is_empty_end, IsLineEnd}
 use Rattle.h1_read.proofs.LineParts.{Lacks, Lacks-append, line_at, line_open}
 use Rattle.h1_read.proofs.HeadLaw.{not_empty}

@@ -1,5 +1,5 @@
 -- The response heads of the model are those of httparse's grammar.
-use Rattle.std.proofs.Common.{inl, inr, sym, ◌∙◌, ap, subst, refl, arith, append_assoc, append-nil, eqb-true}
+use Rattle.std.proofs.Common.{inl, inr, sym, ◌∙◌, ap, subst, refl, append_assoc, append-nil, eqb-true}
 use Rattle.std.specs.Prelude.{ℕ, ◌≡◌, ◌⊎◌, ◌<◌, ◌≤◌, Bool, true, false, ◌&&◌, if◌then◌else◌, List, [], ◌∷◌, ◌++◌, length, take, drop, map, Option, Some, None, ◌==◌}
 use Rattle.std.specs.List.{list_all, AllByRecursion}
 use Rattle.std.specs.Char.{is_ascii_digit}

@@ -1,11 +1,9 @@
 -- One response after another.
 use Rattle.std.proofs.Common.{inl, inr, sym, ◌∙◌, subst, arith, length-drop}
-use Rattle.std.specs.Prelude.{ℕ, suc, ◌≡◌, ◌⊎◌, ◌<◌, ◌≤◌, List, ◌++◌, length, drop, Option, Some, None, map}
-use Rattle.http_model.specs.Reading.{Reading, Whole, Partial, Bad, BadHead, LongHead}
-use Rattle.http_model.specs.Lines.{first_line, without_cr, section}
-use Rattle.http_model.specs.Heads.{head_limit, field_limit, fields_behind, head_lines, RequestLine, request_line, StatusLine, status_line}
-use Rattle.http_model.proofs.Stable.{LeavesUnder, onward-leaves, limited-leaves}
-use Rattle.http_model.proofs.LinesStable.{first_line-leaves, section-leaves}
+use Rattle.std.specs.Prelude.{ℕ, ◌≡◌, ◌⊎◌, ◌<◌, ◌≤◌, List, ◌++◌, length, drop, Option, map}
+use Rattle.http_model.specs.Reading.{Reading, Whole, Partial, Bad, LongHead}
+use Rattle.http_model.specs.Heads.{head_limit, field_limit, head_lines, RequestLine, request_line, StatusLine, status_line}
+use Rattle.http_model.proofs.Stable.{LeavesUnder, limited-leaves}
 use Rattle.ext_msgs.specs.declared.lists.Field as model
 use Rattle.httparse.specs.Grammar.{RequestHead, print_request, ReadsRequest, ResponseHead, print_response, ReadsResponse}
 use Rattle.h1_read.specs.Agreement.{field_of_line, line_of_request, line_of_response}
@@ -13,7 +11,7 @@ use Rattle.h1_read.specs.HeadParts.{request_lines, response_lines}
 use Rattle.h1_read.proofs.WholeBehind.{within_limit, IsLocal, covers, past, le_or_lt}
 use Rattle.h1_read.proofs.RequestLaw.{RequestTells, request_found, request_exceeds, request_tells}
 use Rattle.h1_read.proofs.ResponseLaw.{ResponseTells, response_found, response_exceeds, response_tells}
-use Rattle.http_model.proofs.HeadsStable.{fields_behind-leaves, head_lines-leaves}
+use Rattle.http_model.proofs.HeadsStable.{head_lines-leaves}
 
 -- A head takes at least one byte
 

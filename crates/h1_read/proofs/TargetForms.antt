@@ -1,7 +1,6 @@
 -- Targets byte by byte.
 use Rattle.std.proofs.Common.{◌≡◌, ℕ, ◌+◌, ◌<◌, ◌≤◌, ◌==◌, ◌&&◌, Bool, true, false, if◌then◌else◌, List, [], ◌∷◌, ◌++◌, length, get_or, take, drop, refl, sym, ap, ◌∙◌, arith, bytes_eq, append_assoc, append-nil}
 use Rattle.std.proofs.lemmas.List.{drop_more, drop_all, take_more, take_all}
-use Rattle.std.proofs.lemmas.Bool.Decides.{nat_tests}
 use Rattle.http_model.specs.Bytes.{lower, lower_byte, begins_with}
 use Rattle.http_model.specs.Heads.{span}
 use Rattle.h1_read.proofs.ShownFields.{nat_eq_sym}

@@ -8,6 +8,12 @@ use Rattle.h1_read.specs.Messages.{head_of, IsFault}
 use Rattle.h1_read.specs.declared.fault.H1Fault.{H1Fault}
 use Rattle.h1_read.specs.declared.fault.H1Fault.TheVariants.{Memory}
 use Rattle.h1_read.specs.declared.message.Message.{Message}
+use Rattle.h1_read.specs.declared.place.Place.{Place}
+use Rattle.h1_read.specs.declared.place.Place.TheVariants.{Before}
+use Rattle.h1_read.specs.declared.reader.HeadFed.{HeadFed}
+use Rattle.h1_read.specs.declared.reader.HeadFed.TheVariants as feds
+use Rattle.h1_read.specs.Places.{places}
+use Rattle.h1_read.specs.Steps.{IsOpen}
 
 -- a reader of requests, or of responses to a request that was HEAD or not, with the bytes of its unfinished head
 pub record HeadState : Type 0 where
@@ -37,3 +43,16 @@ IsFed s bytes s' (Ok None) = IsFedOn s bytes s'
 IsFed s bytes s' (Ok (Some got)) = IsFedHead s bytes got.0 got.1 × (s' ≡ s)
 IsFed s bytes s' (Err Memory) = s' ≡ s
 IsFed s bytes s' (Err e) = IsFedFault s bytes e × (s' ≡ s)
+
+-- the head goes on, with these bytes, which end at this place
+pub record IsKeptOn (s : HeadState) (bytes now : List ℕ) (place : Place) : Type 0 where
+  pub on : IsFedOn s bytes (record s { so_far = now })
+  pub still : IsOpen s.direction now
+  pub there : place ≡ places Before now
+
+-- what a piece gives; out of memory says nothing
+abbrev pub IsHeadFed : HeadState → List ℕ → Result HeadFed H1Fault → Type 0
+IsHeadFed s bytes (Ok (feds.Got m used)) = IsFedHead s bytes m used
+IsHeadFed s bytes (Ok (feds.On now place)) = IsKeptOn s bytes now.items place
+IsHeadFed s bytes (Err Memory) = Unit {0}
+IsHeadFed s bytes (Err e) = IsFedFault s bytes e

@@ -1,5 +1,6 @@
 pub mod Agreement
 pub mod Limits
+pub mod Places
 pub mod Parsed
 pub mod Sections
 pub mod HeadParts
@@ -9,6 +10,7 @@ pub mod Messages
 pub mod Steps
 pub mod HeadReading
 pub mod SizeLine
+pub mod ChunkPlaces
 pub mod KeptSections
 pub mod Remaining
 pub mod Stages

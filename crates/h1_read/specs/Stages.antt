@@ -3,6 +3,9 @@ use Rattle.std.specs.Prelude.{ℕ, ◌≡◌, ◌≤◌, ◌+◌, false, List, [
 use Rattle.http_model.specs.Reading.{BadChunk, LongHead}
 use Rattle.http_model.specs.Bodies as bodies
 use Rattle.http_model.specs.Bodies.{Chunk, Begun, Wrong, faulty}
+use Rattle.h1_read.specs.ChunkPlaces.{chunk_places}
+use Rattle.h1_read.specs.declared.chunk_line.ChunkPlace.TheVariants.{Size}
+use Rattle.h1_read.specs.Places.{places, section_start}
 use Rattle.h1_read.specs.Remaining as rest
 use Rattle.h1_read.specs.Remaining.{Rest, IsBegun, remaining, FedPiece}
 use Rattle.h1_read.specs.declared.piece.Piece.{Piece}
@@ -19,10 +22,10 @@ use Rattle.h1_read.specs.declared.body_stage.ChunkEnd.TheVariants as end
 
 abbrev pub rest_of : Stage → List ℕ → Rest
 rest_of (stage.Known n) kept = rest.Known n
-rest_of stage.Line kept = rest.Line kept
+rest_of (stage.Line place) kept = rest.Line kept
 rest_of (stage.Chunk n) kept = rest.Chunk n
 rest_of stage.Lf kept = rest.Lf
-rest_of stage.Trailers kept = rest.Trailers kept
+rest_of (stage.Trailers place) kept = rest.Trailers kept
 rest_of stage.Close kept = rest.Close
 rest_of stage.Over kept = rest.Over
 rest_of stage.Bad kept = rest.Failed BadChunk
@@ -35,9 +38,15 @@ BodySteps before bytes new (Err stop.Bad) = remaining before false bytes ≡ fau
 BodySteps before bytes new (Err stop.Long) = remaining before false bytes ≡ faulty [] LongHead
 BodySteps before bytes new (Err stop.Memory) = Unit {0}
 
+-- what is kept of a chunk line or of a trailer section ends at the place
+abbrev pub IsAt : Stage → List ℕ → Type 0
+IsAt (stage.Line place) kept = place ≡ chunk_places (Size 0) kept
+IsAt (stage.Trailers place) kept = place ≡ places section_start kept
+IsAt _ kept = Unit {0}
+
 -- what is kept behind it is a beginning
 abbrev pub KeepsBegun : Result Fed Stop → List ℕ → Type 0
-KeepsBegun (Ok fed) new = IsBegun (rest_of fed.stage new)
+KeepsBegun (Ok fed) new = IsBegun (rest_of fed.stage new) × IsAt fed.stage new
 KeepsBegun (Err e) new = Unit {0}
 
 abbrev pub OnMemory : Result Fed Stop → Type 0 → Type 0
@@ -51,7 +60,7 @@ abbrev pub Feeds : Stage → List ℕ → Fed → Type 0
 Feeds stage bytes fed = (kept : List ℕ) → FedPiece (rest_of stage kept) bytes (rest_of fed.stage kept) fed.piece fed.used
 
 abbrev pub KeepsNone : Fed → Type 0
-KeepsNone fed = (kept : List ℕ) → IsBegun (rest_of fed.stage kept)
+KeepsNone fed = (kept : List ℕ) → IsBegun (rest_of fed.stage kept) × IsAt fed.stage kept
 
 -- the same of bytes that stand behind so many others
 abbrev pub shifted_piece : ℕ → Piece → Piece

@@ -1,11 +1,12 @@
 //! The body of a message, in any cut: RFC 9112 sections 6 and 7.
 
 ghost use Rattle.std.specs.Prelude.{◌≡◌, ◌<◌, ◌^◌, [], length, IfOk};
-ghost use Rattle.h1_read.specs.Stages.{rest_of};
+ghost use Rattle.h1_read.specs.Stages.{rest_of, IsAt};
 ghost use Rattle.h1_read.specs.Remaining.{at_start, Continues, AtEnd, kept_bytes};
 
 use crate::body_stage::{Fed, Stage, Stop};
 use crate::body_steps::step;
+use crate::chunk_line::ChunkPlace;
 use crate::fault::H1Fault;
 use crate::piece::Piece;
 use http_model::Length;
@@ -13,12 +14,13 @@ use std::alloc::{AllocError, Global};
 use std::marker::Model;
 
 fn first_stage(length: Length) -> Stage
-    ensures { rest_of result [] ≡ at_start length }
+    ensures rest { rest_of result [] ≡ at_start length }
+    ensures at { IsAt result [] }
 {
     match length {
         Length::NoBody => Stage::Over,
         Length::Known(n) => Stage::Known(n),
-        Length::Chunked => Stage::Line,
+        Length::Chunked => Stage::Line(ChunkPlace::Size(0)),
         Length::Close => Stage::Close,
     }
 }
@@ -33,13 +35,13 @@ pub struct BodyReader {
 
 impl Model for BodyReader {
     ghost use Rattle.h1_read.specs.Remaining.{Rest, IsBegun};
-    ghost use Rattle.h1_read.specs.Stages.{rest_of};
+    ghost use Rattle.h1_read.specs.Stages.{rest_of, IsAt};
 
     ghost Value = { Rest };
 
     ghost view = { λ r. rest_of r.stage r.kept.items };
 
-    ghost invariant = { λ r. IsBegun (rest_of r.stage r.kept.items) };
+    ghost invariant = { λ r. IsBegun (rest_of r.stage r.kept.items) × IsAt r.stage r.kept.items };
 }
 
 impl BodyReader {
@@ -86,10 +88,10 @@ impl BodyReader {
         match self.stage {
             Stage::Known(0) => Ok(()),
             Stage::Known(_) => Err(H1Fault::CutShort),
-            Stage::Line => Err(H1Fault::CutShort),
+            Stage::Line(_) => Err(H1Fault::CutShort),
             Stage::Chunk(_) => Err(H1Fault::CutShort),
             Stage::Lf => Err(H1Fault::CutShort),
-            Stage::Trailers => Err(H1Fault::CutShort),
+            Stage::Trailers(_) => Err(H1Fault::CutShort),
             Stage::Close => Ok(()),
             Stage::Over => Ok(()),
             Stage::Bad => Err(H1Fault::BadChunk),
@@ -102,8 +104,8 @@ impl BodyReader {
         ensures { result ≡ length (kept_bytes self.now) }
     {
         match self.stage {
-            Stage::Line => self.kept.len() as u64,
-            Stage::Trailers => self.kept.len() as u64,
+            Stage::Line(_) => self.kept.len() as u64,
+            Stage::Trailers(_) => self.kept.len() as u64,
             _ => 0,
         }
     }

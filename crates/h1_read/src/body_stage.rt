@@ -4,7 +4,9 @@ ghost use Rattle.std.specs.Prelude.{◌≡◌, []};
 ghost use Rattle.http_model.specs.Bodies.{chunk_end};
 ghost use Rattle.h1_read.specs.Stages.{end_chunk, EndSeen};
 
+use crate::chunk_line::ChunkPlace;
 use crate::piece::Piece;
+use crate::place::Place;
 use std::alloc::AllocError;
 
 /// Where a reader stands in a body.
@@ -21,14 +23,14 @@ use std::alloc::AllocError;
 pub(crate) enum Stage {
     /// So many bytes are left.
     Known(u64),
-    /// In the line of a chunk; its bytes so far are kept.
-    Line,
+    /// In the line of a chunk, here; its bytes so far are kept.
+    Line(ChunkPlace),
     /// So many bytes of a chunk's data are left, and then CR LF.
     Chunk(u64),
     /// Before the LF of a chunk's end.
     Lf,
-    /// In the trailer section; its bytes so far are kept.
-    Trailers,
+    /// In the trailer section, here; its bytes so far are kept.
+    Trailers(Place),
     /// The body ends with the connection.
     Close,
     /// The body is whole.

@@ -6,12 +6,13 @@ ghost use Rattle.h1_read.specs.Sections.{trailer_section};
 ghost use Rattle.http_model.specs.Reading.{Partial};
 ghost use Rattle.h1_read.specs.Remaining as rest;
 ghost use Rattle.h1_read.specs.Remaining.{Rest, GivesContent, IsBegun};
-ghost use Rattle.h1_read.specs.Stages.{rest_of, Feeds, KeepsNone, BodySteps, KeepsBegun, OnMemory, StartsWithin, shifted};
+ghost use Rattle.h1_read.specs.Stages.{rest_of, Feeds, KeepsNone, BodySteps, KeepsBegun, IsAt, OnMemory, StartsWithin, shifted};
 ghost use Rattle.h1_read.specs.declared.body_stage.Stage.TheVariants as stage;
 
 use crate::body_stage::{ChunkEnd, Fed, Stage, Stop, end_of_chunk};
-use crate::chunk_line::{SizeLine, keep_line};
+use crate::chunk_line::{ChunkPlace, ChunkScan, SizeLine, chunk_place, keep_line_until, next_over};
 use crate::piece::Piece;
+use crate::place::{Place, Scan, next_stop, section_place};
 use crate::section::{SectionRead, read_section};
 use crate::trailers::keep_section;
 use ext_msgs::FieldList;
@@ -132,7 +133,7 @@ fn section(alloc: Global, kept: &mut Vec<u8>, bytes: &[u8]) -> Result<Fed, Stop>
             begun.extend_from_slice(bytes)?;
             *kept = begun;
             Ok(Fed {
-                stage: Stage::Trailers,
+                stage: Stage::Trailers(section_place(bytes)),
                 piece: Piece::More,
                 used: bytes.len(),
             })
@@ -142,14 +143,28 @@ fn section(alloc: Global, kept: &mut Vec<u8>, bytes: &[u8]) -> Result<Fed, Stop>
     }
 }
 
-/// The trailer section, of which the kept bytes came before.
-pub(crate) fn trailers(alloc: Global, kept: &mut Vec<u8>, bytes: &[u8]) -> Result<Fed, Stop>
+/// The trailer section, of which the kept bytes came before, up to this place.
+pub(crate) fn trailers(
+    alloc: Global,
+    place: Place,
+    kept: &mut Vec<u8>,
+    bytes: &[u8],
+) -> Result<Fed, Stop>
     requires begun { trailer_section kept.old.items ≡ Partial }
+    requires here { IsAt (stage.Trailers place) kept.old.items }
     requires short { length bytes.now < 2 ^ 32 }
     ensures steps { BodySteps (rest.Trailers kept.old.items) bytes.now kept.new.items result }
     ensures begun { KeepsBegun result kept.new.items }
     ensures memory { OnMemory result (kept.new.items ≡ kept.old.items) }
 {
+    if let Scan::Quiet(end) = next_stop(place, kept.len(), bytes) {
+        kept.extend_from_slice(bytes)?;
+        return Ok(Fed {
+            stage: Stage::Trailers(end),
+            piece: Piece::More,
+            used: bytes.len(),
+        });
+    }
     match keep_section(alloc, kept, bytes)? {
         SectionRead::Whole(trailers, used) => Ok(Fed {
             stage: Stage::Over,
@@ -157,7 +172,7 @@ pub(crate) fn trailers(alloc: Global, kept: &mut Vec<u8>, bytes: &[u8]) -> Resul
             used: used as usize,
         }),
         SectionRead::Partial => Ok(Fed {
-            stage: Stage::Trailers,
+            stage: Stage::Trailers(section_place(kept.as_slice())),
             piece: Piece::More,
             used: bytes.len(),
         }),
@@ -166,17 +181,45 @@ pub(crate) fn trailers(alloc: Global, kept: &mut Vec<u8>, bytes: &[u8]) -> Resul
     }
 }
 
-/// The line of a chunk, of which the kept bytes came before, and what stands behind it.
-pub(crate) fn line(alloc: Global, kept: &mut Vec<u8>, bytes: &[u8]) -> Result<Fed, Stop>
+/// The line of a chunk, of which the kept bytes came before, up to this place, and what stands behind it.
+pub(crate) fn line(
+    alloc: Global,
+    place: ChunkPlace,
+    kept: &mut Vec<u8>,
+    bytes: &[u8],
+) -> Result<Fed, Stop>
     requires begun { chunk_line kept.old.items ≡ Partial }
+    requires here { IsAt (stage.Line place) kept.old.items }
     requires short { length bytes.now < 2 ^ 32 }
     ensures steps { BodySteps (rest.Line kept.old.items) bytes.now kept.new.items result }
     ensures begun { KeepsBegun result kept.new.items }
     ensures memory { OnMemory result (kept.new.items ≡ kept.old.items) }
 {
-    match keep_line(kept, bytes)? {
+    match next_over(place, kept.len(), bytes) {
+        ChunkScan::On(end) => {
+            kept.extend_from_slice(bytes)?;
+            Ok(Fed {
+                stage: Stage::Line(end),
+                piece: Piece::More,
+                used: bytes.len(),
+            })
+        }
+        ChunkScan::Until(n) => told_line(alloc, kept, n, bytes),
+    }
+}
+
+// The same, where so many of the bytes tell what the line is.
+fn told_line(alloc: Global, kept: &mut Vec<u8>, until: usize, bytes: &[u8]) -> Result<Fed, Stop>
+    requires begun { chunk_line kept.old.items ≡ Partial }
+    requires inside { until ≤ length bytes.now }
+    requires short { length bytes.now < 2 ^ 32 }
+    ensures steps { BodySteps (rest.Line kept.old.items) bytes.now kept.new.items result }
+    ensures begun { KeepsBegun result kept.new.items }
+    ensures memory { OnMemory result (kept.new.items ≡ kept.old.items) }
+{
+    match keep_line_until(kept, until, bytes)? {
         SizeLine::Partial => Ok(Fed {
-            stage: Stage::Line,
+            stage: Stage::Line(chunk_place(kept.as_slice())),
             piece: Piece::More,
             used: bytes.len(),
         }),
@@ -246,7 +289,7 @@ fn next_line(alloc: Global, kept: &mut Vec<u8>, at: usize, bytes: &[u8]) -> Resu
 {
     kept.clear();
     let (_, others) = bytes.split_at(at);
-    match line(alloc, kept, others) {
+    match line(alloc, ChunkPlace::Size(0), kept, others) {
         Ok(fed) => Ok(behind(at, fed)),
         Err(stop) => Err(stop),
     }
@@ -279,6 +322,7 @@ pub(crate) fn step(
     bytes: &[u8],
 ) -> Result<Fed, Stop>
     requires begun { IsBegun (rest_of stage kept.old.items) }
+    requires here { IsAt stage kept.old.items }
     requires short { length bytes.now < 2 ^ 32 }
     ensures steps { BodySteps (rest_of stage kept.old.items) bytes.now kept.new.items result }
     ensures begun { KeepsBegun result kept.new.items }
@@ -287,10 +331,10 @@ pub(crate) fn step(
     match stage {
         Stage::Known(left) => Ok(known(alloc, left, bytes)),
         Stage::Close => Ok(to_close(bytes)),
-        Stage::Line => line(alloc, kept, bytes),
+        Stage::Line(place) => line(alloc, place, kept, bytes),
         Stage::Chunk(left) => chunk(alloc, kept, left, bytes),
         Stage::Lf => lf(alloc, kept, bytes),
-        Stage::Trailers => trailers(alloc, kept, bytes),
+        Stage::Trailers(place) => trailers(alloc, place, kept, bytes),
         Stage::Over => Ok(Fed {
             stage: Stage::Over,
             piece: Piece::End(FieldList::new(alloc)),

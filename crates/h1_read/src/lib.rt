@@ -13,6 +13,7 @@ mod length;
 mod message;
 mod parse;
 mod piece;
+mod place;
 mod reader;
 mod scan;
 mod section;

@@ -3,10 +3,14 @@
 ghost use Rattle.std.specs.Prelude.{◌≡◌, ◌≤◌, ◌+◌, ◌<◌, ◌^◌, [], false, length, drop, vec_len, IfOk, OnErr};
 ghost use Rattle.http_model.specs.declared.types.Direction.TheVariants.{Request, Response};
 ghost use Rattle.h1_read.specs.Steps.{IsOpen};
-ghost use Rattle.h1_read.specs.HeadReading.{IsFed};
+ghost use Rattle.h1_read.specs.HeadReading.{IsFed, IsHeadFed};
+ghost use Rattle.h1_read.specs.Places.{places};
+ghost use Rattle.h1_read.specs.declared.place.Place.TheVariants.{Before};
 
 use crate::fault::H1Fault;
 use crate::message::Message;
+use crate::place::{Place, Scan, next_stop, place_behind};
+use crate::scan::behind;
 use crate::step::{Step, read_step};
 use http_model::Direction;
 use std::alloc::{AllocError, Global};
@@ -22,7 +26,7 @@ fn drop_front(kept: &mut Vec<u8>, at: usize)
     kept.truncate(len - at);
 }
 
-// Reads on in the bytes of an unfinished head. What isn't taken is dropped again.
+// Parses the bytes of an unfinished head with those that came. What isn't taken is dropped again.
 fn feed_bytes(
     kept: &mut Vec<u8>,
     direction: Direction,
@@ -55,13 +59,97 @@ fn feed_bytes(
     }
 }
 
+// What a piece gives.
+#[derive(Drop)]
+enum HeadFed {
+    /// A head, and how many of the piece's bytes are its own.
+    Got(Message, u32),
+    /// The bytes of an unfinished head, and where they end.
+    On(Vec<u8>, Place),
+}
+
+// Reads on in the bytes of an unfinished head, each time up to the next byte at which the parser has something to say:
+// so it reads a first line and then a whole head, in whatever pieces they come.
+fn read_on(
+    kept: Vec<u8>,
+    place: Place,
+    direction: Direction,
+    to_head: bool,
+    bytes: &[u8],
+) -> Result<HeadFed, H1Fault>
+    requires begun { IsOpen direction kept.items }
+    requires here { place ≡ places Before kept.items }
+    requires small { length bytes.now < 2 ^ 32 }
+    ensures { IsHeadFed record { direction = direction; to_head = to_head; so_far = kept.items } bytes.now result }
+{
+    let mut kept = kept;
+    let mut place = place;
+    let mut at = 0;
+    'stops: loop {
+        let rest = behind(bytes, at);
+        match next_stop(place, kept.len(), rest) {
+            Scan::Quiet(end) => {
+                kept.extend_from_slice(rest)?;
+                return Ok(HeadFed::On(kept, end));
+            }
+            Scan::Stop(n) => {
+                let (part, _) = rest.split_at(n);
+                match feed_bytes(&mut kept, direction, to_head, part) {
+                    Ok(Some((message, used))) => return Ok(HeadFed::Got(message, at as u32 + used)),
+                    Ok(None) => {
+                        place = place_behind(Place::Before, kept.as_slice());
+                        at += n;
+                    }
+                    Err(fault) => return Err(fault),
+                }
+            }
+        }
+    }
+}
+
+// Reads on in the bytes of an unfinished head. They are copied only where the parser has to read, since they stay where
+// it finds a head or a fault.
+fn feed_head(
+    kept: &mut Vec<u8>,
+    place: &mut Place,
+    direction: Direction,
+    to_head: bool,
+    bytes: &[u8],
+) -> Result<Option<(Message, u32)>, H1Fault>
+    requires begun { IsOpen direction kept.old.items }
+    requires here { place.old ≡ places Before kept.old.items }
+    requires small { length bytes.now < 2 ^ 32 }
+    ensures fed { IsFed
+        record { direction = direction; to_head = to_head; so_far = kept.old.items } bytes.now
+        record { direction = direction; to_head = to_head; so_far = kept.new.items } result }
+    ensures still { IsOpen direction kept.new.items }
+    ensures there { place.new ≡ places Before kept.new.items }
+{
+    if let Scan::Quiet(end) = next_stop(*place, kept.len(), bytes) {
+        kept.extend_from_slice(bytes)?;
+        *place = end;
+        return Ok(None);
+    }
+    let mut copy = Vec::new(*kept.allocator());
+    copy.extend_from_slice(kept.as_slice())?;
+    match read_on(copy, *place, direction, to_head, bytes)? {
+        HeadFed::Got(message, used) => Ok(Some((message, used))),
+        HeadFed::On(now, end) => {
+            *kept = now;
+            *place = end;
+            Ok(None)
+        }
+    }
+}
+
 /// Reads the head of a message from pieces: RFC 9112 sections 2 to 6. Contracts see the direction, whether the response
 /// is to a HEAD request, and the bytes of the unfinished head, behind interim responses.
-#[derive(Debug, Drop)]
+#[derive(Drop)]
 pub struct HeadReader {
     direction: Direction,
     to_head: bool,
     kept: Vec<u8>,
+    place: Place,
 }
 
 impl Model for HeadReader {
@@ -69,11 +157,14 @@ impl Model for HeadReader {
 
     ghost Value = { HeadState };
 
+    ghost use Rattle.std.specs.Prelude.{◌≡◌};
+    ghost use Rattle.h1_read.specs.Places.{places};
+    ghost use Rattle.h1_read.specs.declared.place.Place.TheVariants.{Before};
     ghost use Rattle.h1_read.specs.Steps.{IsOpen};
 
     ghost view = { λ r. record { direction = r.direction; to_head = r.to_head; so_far = r.kept.items } };
 
-    ghost invariant = { λ r. IsOpen r.direction r.kept.items };
+    ghost invariant = { λ r. IsOpen r.direction r.kept.items × (r.place ≡ places Before r.kept.items) };
 }
 
 impl HeadReader {
@@ -85,6 +176,7 @@ impl HeadReader {
             direction: Direction::Request,
             to_head: false,
             kept: Vec::new(alloc),
+            place: Place::Before,
         })
     }
 
@@ -96,6 +188,7 @@ impl HeadReader {
             direction: Direction::Response,
             to_head,
             kept: Vec::new(alloc),
+            place: Place::Before,
         })
     }
 
@@ -107,7 +200,13 @@ impl HeadReader {
         ensures fed { IsFed self.old bytes.now self.new result }
         ensures unchanged { OnErr result (self.new ≡ self.old) }
     {
-        feed_bytes(&mut self.kept, self.direction, self.to_head, bytes)
+        feed_head(
+            &mut self.kept,
+            &mut self.place,
+            self.direction,
+            self.to_head,
+            bytes,
+        )
     }
 
     /// How many bytes of an unfinished head are kept: fewer than a head may take.
