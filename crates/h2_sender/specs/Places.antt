@@ -1,5 +1,5 @@
 -- The place of a frame in the queue.
-use Rattle.std.specs.Prelude.{ℕ, suc, ◌≡◌, ◌<◌, true, not, ◌||◌, List, [], ◌∷◌, length, drop, Option, Some, None, if◌then◌else◌, filter}
+use Rattle.std.specs.Prelude.{ℕ, suc, ◌≡◌, ◌<◌, zero, true, false, not, ◌||◌, List, [], ◌∷◌, length, drop, Option, Some, None, if◌then◌else◌, filter}
 use Rattle.std.specs.List.{list_any, slice_index_or}
 use Rattle.h2_frames.specs.declared.frame.Frame.{Frame}
 use Rattle.h2_model.specs.Log.{stream_of}
@@ -20,3 +20,9 @@ abbrev pub IsLastFree : ℕ → List Waiting → Option ℕ → Type 0
 IsLastFree id queue None = filter (is_free_of id) queue ≡ []
 IsLastFree id queue (Some i) =
     (i < length queue) × ((d : Waiting) → is_free_of id (slice_index_or queue i d) ≡ true) × (filter (is_free_of id) (drop (suc i) queue) ≡ [])
+
+-- none of the first so many frames is DATA that others may pass
+abbrev pub IsFront : ℕ → List Waiting → Type 0
+IsFront zero queue = Unit {0}
+IsFront (suc n) [] = ⊥
+IsFront (suc n) (w ∷ queue) = (is_free w ≡ false) × IsFront n queue

@@ -185,13 +185,6 @@ impl Outgoing {
         data_in(stream, &self.frame)
     }
 
-    /// Of those the ones that others may pass.
-    pub(crate) fn free_data(&self, stream: u32) -> u64
-        ensures { result ≡ (if is_free self.now then data_in stream self.now.frame else 0) }
-    {
-        if self.is_free() { self.data(stream) } else { 0 }
-    }
-
     /// How many bytes of DATA for a stream weren't given.
     pub(crate) fn unsent(&self, stream: u32) -> u64
         ensures { result ≡ min (data_in stream self.now.frame) (length self.now.left) }
