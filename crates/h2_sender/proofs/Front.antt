@@ -3,7 +3,7 @@ use Rattle.std.proofs.Common.{arith, ◌≡◌, ◌≤◌, ◌<◌, ◌+◌, ◌
 use Rattle.std.specs.List.{list_any, filter, insert, remove}
 use Rattle.h2_model.specs.Log.{stream_of}
 use Rattle.h2_model.specs.Moves.{is_dropped}
-use Rattle.h2_model.specs.Queue.{Waiting, is_data, is_free, is_free_of, stays_behind}
+use Rattle.h2_model.specs.Queue.{Waiting, goes_last, is_data, is_free, is_free_of, stays_behind}
 use Rattle.h2_sender.specs.Places.{place_of, IsFront}
 use Rattle.h2_sender.proofs.Placed.{is_passed}
 
@@ -17,7 +17,7 @@ pub place_behind : (x : Waiting) (n : ℕ) (queue : List Waiting) → IsFront n 
 place_behind x zero queue h = omega arith
 place_behind x (suc n) [] h = absurd h
 place_behind x (suc n) (w ∷ queue) h =
-    let passed : is_passed x w queue ≡ true = rw h.0 (either (is_free x) (list_any (stays_behind x.frame) (w ∷ queue))) in
+    let passed : is_passed x w queue ≡ true = rw h.0 (either (goes_last x) (list_any (stays_behind x.frame) (w ∷ queue))) in
     let rest = place_behind x n queue h.1 in
     rw passed (omega arith)
   where

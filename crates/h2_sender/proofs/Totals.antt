@@ -1,5 +1,5 @@
 -- Sums over a queue after a frame entered, frames went away or were placed anew.
-use Rattle.std.proofs.Common.{arith, rules, ◌≡◌, ◌≤◌, ◌<◌, ◌+◌, ◌-◌, ◌^◌, Bool, true, false, not, List, [], ◌∷◌, length, length-drop, drop, subst, map, cond, min, ◌==◌, ◌||◌, ℕ, refl, ap, sym, ◌∙◌}
+use Rattle.std.proofs.Common.{arith, rules, ◌≡◌, ◌≤◌, ◌<◌, ◌+◌, ◌-◌, ◌^◌, Bool, true, false, not, List, [], ◌∷◌, length, map, cond, min, ◌==◌, ◌||◌, ℕ, refl, ap, sym, ◌∙◌}
 use Rattle.std.specs.List.{filter, All}
 use Rattle.std.proofs.lemmas.List.Filters.{sum_by-filter_both}
 use Rattle.std.proofs.lemmas.List.Elements.{All-cons, All-head, All-tail, All-filter, All-nil}
@@ -197,28 +197,6 @@ counted_all w queue n c m d k h control front =
     let counted : n ≡ queued 0 (w ∷ queue) = h.counted in
     let bound : n ≤ 2 ^ 40 = h.bound in
     record { left = All-tail HasLeft w queue h.left; counted = omega arith; bound = omega arith; control = control; front = front }
-
--- what is no part of DATA, as the first frame is given
-
-pub control_begun : (w next : Waiting) (n : ℕ) → next ≡ record w { left = drop n w.left; fixed = true } → control_in next ≤ control_in w
-control_begun w next n e = subst (λ v. control_in v ≤ control_in w) (sym e) (by (is_data w.frame))
-  where
-    by : (d : Bool) → cond d 0 (length (drop n w.left)) ≤ cond d 0 (length w.left)
-    by true = omega arith
-    by false = let left = length-drop n w.left in omega arith
-
-pub control_some : (w next : Waiting) (queue : List Waiting) (c : ℕ) → c ≡ min (control_bytes (w ∷ queue)) (2 ^ 64 - 1)
-    → control_in next ≤ control_in w → c ≡ min (control_bytes (next ∷ queue) + (control_in w - control_in next)) (2 ^ 64 - 1)
-control_some w next queue c e l =
-    let old : control_bytes (w ∷ queue) ≡ control_in w + control_bytes queue = sum_by-cons control_in w queue in
-    let new : control_bytes (next ∷ queue) ≡ control_in next + control_bytes queue = sum_by-cons control_in next queue in
-    omega arith
-
-pub control_all : (w : Waiting) (queue : List Waiting) (c : ℕ) → c ≡ min (control_bytes (w ∷ queue)) (2 ^ 64 - 1)
-    → c ≡ min (control_bytes queue + control_in w) (2 ^ 64 - 1)
-control_all w queue c e =
-    let old : control_bytes (w ∷ queue) ≡ control_in w + control_bytes queue = sum_by-cons control_in w queue in
-    omega arith
 
 -- where no DATA waits, none is unsent
 pub no_data : (id n : ℕ) (queue : List Waiting) → n ≡ queued 0 queue → n ≡ 0 → unsent id queue ≡ 0

@@ -3,13 +3,13 @@ use Rattle.std.specs.Prelude.{ℕ, suc, ◌≡◌, ◌<◌, zero, true, false, n
 use Rattle.std.specs.List.{list_any, slice_index_or}
 use Rattle.h2_frames.specs.declared.frame.Frame.{Frame}
 use Rattle.h2_model.specs.Log.{stream_of}
-use Rattle.h2_model.specs.Queue.{Waiting, is_free, is_free_of, is_reset_frame, stays_behind, with_end_placed}
+use Rattle.h2_model.specs.Queue.{Waiting, goes_last, is_free, is_free_of, is_reset_frame, stays_behind, with_end_placed}
 
 -- how many frames of the queue stand before it
 abbrev pub place_of : Waiting → List Waiting → ℕ
 place_of x [] = 0
 place_of x (w ∷ queue) =
-    if is_free x || not (is_free w) || list_any (stays_behind x.frame) (w ∷ queue) then suc (place_of x queue) else 0
+    if goes_last x || not (is_free w) || list_any (stays_behind x.frame) (w ∷ queue) then suc (place_of x queue) else 0
 
 -- the queue that a frame enters: a reset gives its stream's DATA another place
 abbrev pub ready_for : Frame → List Waiting → List Waiting

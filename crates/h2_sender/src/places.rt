@@ -28,14 +28,14 @@ pub(crate) fn front_of(frames: &VecDeque<Outgoing>, front: usize) -> usize
     frames.len()
 }
 
-// The place of a frame: the end for DATA that others may pass, and otherwise before the first such DATA behind which
-// no frame stands that this one must stay behind.
+// The place of a frame: the end for DATA that others may pass and for an acknowledgement, and otherwise before the
+// first such DATA behind which no frame stands that this one must stay behind.
 fn place_of(frames: &VecDeque<Outgoing>, front: usize, new: &Outgoing) -> usize
     requires { IsFront front frames.now.items }
     ensures { result ≡ place_of new.now frames.now.items }
 {
     let len = frames.len();
-    if new.is_free() {
+    if new.goes_last() {
         return len;
     }
     let mut place = len;

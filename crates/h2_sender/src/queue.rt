@@ -112,10 +112,10 @@ impl FrameQueue {
         self.frames.reserve(n)
     }
 
-    /// A frame enters at its place: DATA at the end, and another frame before DATA that it needn't stay behind. It
-    /// stays behind what is of its stream where one of the two is a field block or it is a reset, and blocks stay in
-    /// their order. A payload has at most 16,384 bytes, and a block, which is cut as it is given, any length. All DATA
-    /// together has at most 2^40 bytes.
+    /// A frame enters at its place: DATA and an acknowledgement at the end, and another frame before DATA that it
+    /// needn't stay behind. It stays behind what is of its stream where one of the two is a field block or it is a
+    /// reset, and blocks stay in their order and behind acknowledgements. A payload has at most 16,384 bytes, and a
+    /// block, which is cut as it is given, any length. All DATA together has at most 2^40 bytes.
     pub fn enter(&mut self, frame: Frame)
         requires sendable { IsSendable frame }
         requires room { 0 < self.old.room }

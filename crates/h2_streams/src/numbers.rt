@@ -9,8 +9,8 @@ use h2_model::Gap;
 use std::alloc::{AllocError, Global};
 use std::marker::Model;
 
-/// How many gaps are kept, which take 8 MiB: a peer may open 3, 7, 11, .. (RFC 9113 section 5.1.1), and has sent 9 MiB of
-/// HEADERS for so many. One that passes over numbers more often is answered as out of memory.
+/// How many gaps are kept, which take 8 MiB: a peer may open 3, 7, 11, .. (RFC 9113 section 5.1.1), and has sent 9 MiB
+/// of HEADERS for so many. One that passes over numbers more often is answered as out of memory.
 const MOST_GAPS: usize = 1 << 20;
 
 /// The numbers of the streams that were opened, which are odd: RFC 9113 section 5.1.1. All below the next one were, but

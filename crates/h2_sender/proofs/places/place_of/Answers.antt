@@ -1,14 +1,14 @@
--- DATA that others may pass goes to the end; the search ends at a frame that blocks the way.
+-- What goes last goes to the end; the search ends at a frame that blocks the way.
 use Rattle.std.proofs.Common.{arith, rules, ◌≡◌, ◌<◌, ◌+◌, ◌-◌, true, List, [], refl, length, get_or, drop, ℕ, ap, sym, ◌∙◌}
 use Rattle.h2_model.specs.Queue.{Waiting, stays_behind}
 use Rattle.h2_sender.specs.Places.{place_of}
-use Rattle.h2_sender.proofs.Placed.{place_of_free, place_blocked}
+use Rattle.h2_sender.proofs.Placed.{place_of_last, place_blocked}
 use Rattle.h2_sender.proofs.Front.{front_within, none_behind, place_behind}
 use Rattle.h2_sender.proofs.places.place_of.Goals as goal
 
-pub returns-then-is_free : goal.returns-then-is_free
-returns-then-is_free c =
-    let end = place_of_free c.args.new.now c.args.frames.now.items (sym c.is_free.ensures ∙ c.if-is_free.true) in
+pub returns-then-goes_last : goal.returns-then-goes_last
+returns-then-goes_last c =
+    let end = place_of_last c.args.new.now c.args.frames.now.items (sym c.goes_last.ensures ∙ c.if-goes_last.true) in
     search rules
 
 pub returns-then-stays_behind : goal.returns-then-stays_behind
