@@ -7,7 +7,7 @@ use Rattle.std.proofs.lemmas.List.Filters.{sum_by-filter_both}
 use Rattle.h2_frames.specs.declared.frame.Frame.{Frame}
 use Rattle.h2_frames.specs.declared.frame.Frame.TheVariants as frame
 use Rattle.h2_model.specs.Log.{LogEntry, Handed, stream_of}
-use Rattle.h2_model.specs.Queue.{Waiting, fresh, placed, all_placed, entered, queued, data_in, is_free, is_free_of, stays_behind, with_place, with_end_placed, is_reset_frame}
+use Rattle.h2_model.specs.Queue.{Waiting, fresh, placed, all_placed, entered, queued, data_in, goes_last, is_free, is_free_of, stays_behind, with_place, with_end_placed, is_reset_frame}
 use Rattle.h2_model.specs.Windows.{held_data}
 use Rattle.h2_model.specs.Valid.{update_of, updates_in}
 
@@ -26,7 +26,7 @@ queued-split n p queue = sum_by-filter_both p (λ w. not (p w)) (λ w. refl) (λ
 pub sum-placed : (m : Waiting → ℕ) (x : Waiting) (queue : List Waiting) → sum_by m (placed x queue) ≡ m x + sum_by m queue
 sum-placed m x [] = sum_by-cons m x []
 sum-placed m x (w ∷ queue) =
-    by (is_free x || not (is_free w) || list_any (stays_behind x.frame) (w ∷ queue)) (sum-placed m x queue)
+    by (goes_last x || not (is_free w) || list_any (stays_behind x.frame) (w ∷ queue)) (sum-placed m x queue)
   where
     by : (c : Bool) → sum_by m (placed x queue) ≡ m x + sum_by m queue
         → sum_by m (if c then w ∷ placed x queue else x ∷ w ∷ queue) ≡ m x + sum_by m (w ∷ queue)
@@ -95,7 +95,7 @@ pub all-placed-one : (P : Waiting → Type 0) (x : Waiting) (queue : List Waitin
     → All P (placed x queue)
 all-placed-one P x [] p h = All-cons P x [] p h
 all-placed-one P x (w ∷ queue) p h =
-    by (is_free x || not (is_free w) || list_any (stays_behind x.frame) (w ∷ queue))
+    by (goes_last x || not (is_free w) || list_any (stays_behind x.frame) (w ∷ queue))
     (all-placed-one P x queue p (All-tail P w queue h))
   where
     by : (c : Bool) → All P (placed x queue) → All P (if c then w ∷ placed x queue else x ∷ w ∷ queue)

@@ -48,18 +48,28 @@ abbrev pub is_reset_frame : Frame → Bool
 is_reset_frame (frame.Reset id code) = true
 is_reset_frame _ = false
 
--- a block stays behind every block, since blocks share one table; a block and a reset stay behind all of their stream, and
--- its frames behind its blocks
+abbrev pub is_ack : Frame → Bool
+is_ack frame.SettingsAck = true
+is_ack _ = false
+
+-- SETTINGS are acknowledged behind the DATA that was handed over before they came, so that a peer that lowered a window gets
+-- none past it once this is acknowledged: RFC 9113 sections 6.5.3 and 6.9.2
+abbrev pub goes_last : Waiting → Bool
+goes_last w = is_free w || is_ack w.frame
+
+-- a block stays behind every block, since blocks share one table, and behind an acknowledgement, since the first block that
+-- follows it tells a lower limit of the table (RFC 9113 section 4.3.1); a block and a reset stay behind all of their stream,
+-- and its frames behind its blocks
 abbrev pub stays_behind : Frame → Waiting → Bool
 stays_behind f w =
-    (is_block f && is_block w.frame)
+    (is_block f && (is_block w.frame || is_ack w.frame))
     || ((is_block f || is_reset_frame f || is_block w.frame) && (stream_of f == stream_of w.frame))
 
--- DATA goes to the end; another frame goes before the first DATA that it needn't stay behind
+-- DATA and acknowledgements go to the end; another frame goes before the first DATA that it needn't stay behind
 abbrev pub placed : Waiting → List Waiting → List Waiting
 placed x [] = x ∷ []
 placed x (w ∷ queue) =
-    if is_free x || not (is_free w) || list_any (stays_behind x.frame) (w ∷ queue)
+    if goes_last x || not (is_free w) || list_any (stays_behind x.frame) (w ∷ queue)
     then w ∷ placed x queue
     else x ∷ w ∷ queue
 

@@ -55,6 +55,20 @@ begun_frame_goes_first : queue (client_after (ready ++ Send 1 (codes "abc") ∷ 
 unfolding rules
 begun_frame_goes_first = refl
 
+-- an initial window of 0: nothing of a stream may follow its acknowledgement
+abbrev shut : Call
+shut = fed (codes "000006040000000000000400000000")
+
+acknowledgement_stays_behind_data : queue (client_after (ready ++ Send 1 (codes "abc") ∷ shut ∷ ping ∷ []))
+    ≡ (pong, 17) ∷ (frame.Data 1 (codes "abc") false 3, 12) ∷ (frame.SettingsAck, 9) ∷ []
+unfolding rules
+acknowledgement_stays_behind_data = refl
+
+block_stays_behind_an_acknowledgement : queue (client_after (ready ++ Open ∷ Send 1 (codes "abc") ∷ shut ∷ Head 3 [] [] false ∷ []))
+    ≡ (frame.Data 1 (codes "abc") false 3, 12) ∷ (frame.SettingsAck, 9) ∷ (frame.Headers 3 [] false true, 9) ∷ []
+unfolding rules
+block_stays_behind_an_acknowledgement = refl
+
 -- Resets
 
 reset_drops_waiting_bytes : queue (client_after (ready ++ Send 1 (codes "abc") ∷ Reset 1 8 ∷ [])) ≡ (frame.Reset 1 8, 13) ∷ []

@@ -1,6 +1,7 @@
 pub mod Copies
 pub mod Blocks
 pub mod Placed
+pub mod Front
 pub mod Ends
 pub mod Totals
 pub mod Gives

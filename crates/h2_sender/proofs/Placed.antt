@@ -3,12 +3,12 @@ use Rattle.std.proofs.Common.{arith, rules, ◌≡◌, ◌≤◌, ◌||◌, Bool
 use Rattle.std.specs.Result.{OnOk, OnErr}
 use Rattle.std.specs.List.{list_any, insert}
 use Rattle.std.proofs.lemmas.List.Folds.{list_any_at}
-use Rattle.h2_model.specs.Queue.{Waiting, placed, is_free, stays_behind}
+use Rattle.h2_model.specs.Queue.{Waiting, placed, goes_last, is_free, stays_behind}
 use Rattle.h2_sender.specs.Places.{place_of}
 
 -- whether a frame is passed on the way to the place
 abbrev pub is_passed : Waiting → Waiting → List Waiting → Bool
-is_passed x w queue = is_free x || not (is_free w) || list_any (stays_behind x.frame) (w ∷ queue)
+is_passed x w queue = goes_last x || not (is_free w) || list_any (stays_behind x.frame) (w ∷ queue)
 
 pub placed_is : (x : Waiting) (queue : List Waiting) → placed x queue ≡ insert queue (place_of x queue) x
 placed_is x [] = refl
@@ -24,11 +24,11 @@ place_within x (w ∷ queue) = by_test (is_passed x w queue) (place_within x que
   by_test true h = omega arith
   by_test false h = omega arith
 
-pub place_of_free : (x : Waiting) (queue : List Waiting) → is_free x ≡ true → place_of x queue ≡ length queue
-place_of_free x [] free = refl
-place_of_free x (w ∷ queue) free =
-    let e = place_of_free x queue free in
-    let passed : is_passed x w queue ≡ true = rw free refl in
+pub place_of_last : (x : Waiting) (queue : List Waiting) → goes_last x ≡ true → place_of x queue ≡ length queue
+place_of_last x [] last = refl
+place_of_last x (w ∷ queue) last =
+    let e = place_of_last x queue last in
+    let passed : is_passed x w queue ≡ true = rw last refl in
     rw passed (ap suc e)
 
 -- behind a frame that x must stay behind

@@ -6,10 +6,12 @@ use Rattle.std.proofs.lemmas.List.Elements.{All-cons, All-head, All-tail, All-fi
 use Rattle.std.proofs.lemmas.List.Sums.{sum_by-cons, sum_by-le-sum_by, sum_by-insert}
 use Rattle.h2_frames.specs.declared.frame.Frame.{Frame}
 use Rattle.h2_frames.specs.declared.frame.Frame.TheVariants as frame
-use Rattle.h2_model.specs.Queue.{Waiting, placed, all_placed, is_free, is_free_of, with_place, with_end_placed, entered, fresh, is_reset_frame, data_in, bytes_of, queued, unsent}
+use Rattle.h2_model.specs.Queue.{Waiting, placed, all_placed, is_free, is_free_of, with_place, with_end_placed, entered, fresh, is_reset_frame, data_in, bytes_of, queued, unsent, control_bytes, is_data}
 use Rattle.h2_model.specs.Log.{stream_of}
 use Rattle.h2_sender.specs.Places.{place_of, ready_for}
-use Rattle.h2_sender.specs.Queue.{HasLeft, IsCounted, free_data}
+use Rattle.h2_sender.specs.Queue.{HasLeft, IsCounted}
+use Rattle.h2_laws_log.proofs.Queues.{sum-entered}
+use Rattle.h2_sender.specs.Places.{IsFront}
 use Rattle.h2_sender.proofs.Placed.{placed_is, is_passed}
 
 -- one frame enters
@@ -95,16 +97,25 @@ some_bytes (frame.Window id n) = omega arith
 some_bytes (frame.Continuation id part ends) = omega arith
 some_bytes (frame.Unknown kind) = omega arith
 
-pub counted_entered : (f : Frame) (queue : List Waiting) (n : ℕ) → IsCounted queue n → n + data_in 0 f ≤ 2 ^ 40 → IsCounted (entered f queue) (n + data_in 0 f)
-counted_entered f queue n h fits =
+-- the bytes of a frame that are no part of DATA
+abbrev pub control_in : Waiting → ℕ
+control_in w = cond (is_data w.frame) 0 (length w.left)
+
+pub counted_entered : (f : Frame) (queue : List Waiting) (n c m next : ℕ) → IsCounted queue n c m → n + data_in 0 f ≤ 2 ^ 40 → IsFront next (entered f queue)
+    → IsCounted (entered f queue) (n + data_in 0 f) (min (c + control_in (fresh f)) (2 ^ 64 - 1)) next
+counted_entered f queue n c m next h fits front =
     let before = queued_ready 0 f queue in
     let one = queued_placed 0 (fresh f) (ready_for f queue) in
     let counted : n ≡ queued 0 queue = h.counted in
     let total : n + data_in 0 f ≡ queued 0 (entered f queue) = omega arith in
+    let control : c ≡ min (control_bytes queue) (2 ^ 64 - 1) = h.control in
+    let more : control_bytes (entered f queue) ≡ control_in (fresh f) + control_bytes queue = sum-entered control_in (λ w. refl) f queue in
     record {
       left = left_placed (fresh f) (ready_for f queue) (some_bytes f) (left_ready f queue h.left);
       counted = total;
       bound = fits;
+      control = omega arith;
+      front = front;
     }
 
 -- frames go
@@ -112,21 +123,6 @@ counted_entered f queue n h fits =
 pub queued_kept : (id : ℕ) (p : Waiting → Bool) (queue : List Waiting) → queued id (filter p queue) ≤ queued id queue
 queued_kept id p queue =
     let both = sum_by-filter_both p (λ (w : Waiting). not (p w)) (λ w. refl) (λ (w : Waiting). data_in id w.frame) queue in omega arith
-
-free_is : (id : ℕ) (queue : List Waiting) → queued id (filter is_free queue) ≡ free_data id queue
-free_is id [] = refl
-free_is id (w ∷ queue) =
-    by_test (is_free w) (free_is id queue)
-    ∙ sym (sum_by-cons (λ (x : Waiting). cond (is_free x) (data_in id x.frame) 0) w queue) where
-      by_test : (free : Bool) → queued id (filter is_free queue) ≡ free_data id queue → queued id (cond free (w ∷ filter is_free queue) (filter is_free queue)) ≡ cond free (data_in id w.frame) 0 + free_data id queue
-      by_test true e = sum_by-cons (λ (x : Waiting). data_in id x.frame) w (filter is_free queue) ∙ ap (λ (n : ℕ). data_in id w.frame + n) e
-      by_test false e = omega arith
-
-pub free_data_is : (id : ℕ) (queue : List Waiting) → free_data id queue ≡ queued id queue - queued id (filter (λ w. not (is_free w)) queue)
-free_data_is id queue =
-    let both = sum_by-filter_both is_free (λ (w : Waiting). not (is_free w)) (λ w. refl) (λ (w : Waiting). data_in id w.frame) queue in
-    let free = free_is id queue in
-    omega arith
 
 -- one stream has no more than all
 
@@ -147,27 +143,61 @@ unsent_of_one id queue =
     let all = queued_of_one id queue in
     omega arith
 
--- only some frames stay
-pub counted_kept : (p : Waiting → Bool) (queue : List Waiting) (n : ℕ) → IsCounted queue n → IsCounted (filter p queue) (queued 0 (filter p queue))
-counted_kept p queue n h =
+-- only some frames stay, and no DATA goes that is no free one
+control_kept : (p : Waiting → Bool) → ((w : Waiting) → is_free w ≡ false → p w ≡ true) → (queue : List Waiting) → control_bytes (filter p queue) ≡ control_bytes queue
+control_kept p keeps [] = refl
+control_kept p keeps (w ∷ queue) = by (p w) refl (control_kept p keeps queue)
+  where
+    gone : p w ≡ false → is_data w.frame ≡ true
+    gone e = by (is_data w.frame) refl
+      where
+        apart : (b : Bool) → b ≡ true → b ≡ false → ⊥
+        apart true t f = absurd (grind (arith, f))
+        apart false t f = absurd (grind (arith, t))
+        by : (d : Bool) → is_data w.frame ≡ d → is_data w.frame ≡ true
+        by true d = d
+        by false d = absurd (apart (p w) (keeps w (rw d refl)) e)
+    by : (c : Bool) → p w ≡ c → control_bytes (filter p queue) ≡ control_bytes queue
+        → control_bytes (cond c (w ∷ filter p queue) (filter p queue)) ≡ control_bytes (w ∷ queue)
+    by true e ih = rw (sum_by-cons control_in w (filter p queue), sum_by-cons control_in w queue) (ap (λ k. control_in w + k) ih)
+    by false e ih =
+        let none : control_in w ≡ 0 = rw (gone e) refl in
+        let here : control_bytes (w ∷ queue) ≡ control_in w + control_bytes queue = sum_by-cons control_in w queue in
+        omega arith
+
+pub counted_kept : (p : Waiting → Bool) → ((w : Waiting) → is_free w ≡ false → p w ≡ true) → (queue : List Waiting) (n c m next : ℕ) → IsCounted queue n c m → IsFront next (filter p queue)
+    → IsCounted (filter p queue) (queued 0 (filter p queue)) c next
+counted_kept p keeps queue n c m next h front =
     let fewer = queued_kept 0 p queue in
     let counted : n ≡ queued 0 queue = h.counted in
     let bound : n ≤ 2 ^ 40 = h.bound in
-    record { left = All-filter p HasLeft queue h.left; counted = refl; bound = omega arith }
+    record {
+      left = All-filter p HasLeft queue h.left;
+      counted = refl;
+      bound = omega arith;
+      control = h.control ∙ ap (λ k. min k (2 ^ 64 - 1)) (sym (control_kept p keeps queue));
+      front = front;
+    }
 
 -- the first frame is given, in part or whole
 
-pub counted_some : (w next : Waiting) (queue : List Waiting) (n : ℕ) → IsCounted (w ∷ queue) n → next.frame ≡ w.frame → HasLeft next → IsCounted (next ∷ queue) n
-counted_some w next queue n h same left =
+pub counted_some : (w next : Waiting) (queue : List Waiting) (n c m d k : ℕ) → IsCounted (w ∷ queue) n c m → next.frame ≡ w.frame → HasLeft next
+    → d ≡ min (control_bytes (next ∷ queue)) (2 ^ 64 - 1) → IsFront k (next ∷ queue) → IsCounted (next ∷ queue) n d k
+counted_some w next queue n c m d k h same left control front =
     let old = sum_by-cons (λ (x : Waiting). data_in 0 x.frame) w queue in
     let new = sum_by-cons (λ (x : Waiting). data_in 0 x.frame) next queue in
     let frame = ap (data_in 0) same in
     let counted : n ≡ queued 0 (w ∷ queue) = h.counted in
-    record { left = All-cons HasLeft next queue left (All-tail HasLeft w queue h.left); counted = omega arith; bound = h.bound }
+    record { left = All-cons HasLeft next queue left (All-tail HasLeft w queue h.left); counted = omega arith; bound = h.bound; control = control; front = front }
 
-pub counted_all : (w : Waiting) (queue : List Waiting) (n : ℕ) → IsCounted (w ∷ queue) n → IsCounted queue (n - data_in 0 w.frame)
-counted_all w queue n h =
+pub counted_all : (w : Waiting) (queue : List Waiting) (n c m d k : ℕ) → IsCounted (w ∷ queue) n c m
+    → d ≡ min (control_bytes queue) (2 ^ 64 - 1) → IsFront k queue → IsCounted queue (n - data_in 0 w.frame) d k
+counted_all w queue n c m d k h control front =
     let old = sum_by-cons (λ (x : Waiting). data_in 0 x.frame) w queue in
     let counted : n ≡ queued 0 (w ∷ queue) = h.counted in
     let bound : n ≤ 2 ^ 40 = h.bound in
-    record { left = All-tail HasLeft w queue h.left; counted = omega arith; bound = omega arith }
+    record { left = All-tail HasLeft w queue h.left; counted = omega arith; bound = omega arith; control = control; front = front }
+
+-- where no DATA waits, none is unsent
+pub no_data : (id n : ℕ) (queue : List Waiting) → n ≡ queued 0 queue → n ≡ 0 → unsent id queue ≡ 0
+no_data id n queue e z = let less = unsent_of_one id queue in omega arith

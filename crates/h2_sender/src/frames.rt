@@ -4,7 +4,7 @@ ghost use Rattle.std.specs.Prelude.{◌≡◌, ◌<◌, ◌-◌, ◌^◌, length
 ghost use Rattle.h2_frames.specs.Copied.{IsCopied};
 ghost use Rattle.h2_model.specs.Calls.{is_window};
 ghost use Rattle.h2_model.specs.Log.{stream_of};
-ghost use Rattle.h2_model.specs.Queue.{is_data, is_block, is_reset_frame, has_bytes, data_in, bytes_of};
+ghost use Rattle.h2_model.specs.Queue.{is_ack, is_data, is_block, is_reset_frame, has_bytes, data_in, bytes_of};
 ghost use Rattle.h2_sender.specs.Outgoing.{IsSendable};
 
 use crate::block::{block_len, copy_block};
@@ -20,6 +20,12 @@ pub(crate) fn is_block(frame: &Frame) -> bool
     ensures { result ≡ is_block frame.now }
 {
     matches!(frame, Frame::Headers(..))
+}
+
+pub(crate) fn is_ack(frame: &Frame) -> bool
+    ensures { result ≡ is_ack frame.now }
+{
+    matches!(frame, Frame::SettingsAck)
 }
 
 pub(crate) fn is_reset(frame: &Frame) -> bool

@@ -4,13 +4,13 @@ ghost use Rattle.std.specs.Prelude.{◌≡◌, ◌<◌, ◌≤◌, ◌+◌, ◌^
 ghost use Rattle.h2_model.specs.History.{preface};
 ghost use Rattle.h2_model.specs.Log.{stream_of};
 ghost use Rattle.h2_model.specs.Moves.{is_dropped};
-ghost use Rattle.h2_model.specs.Queue.{is_data, is_free, is_free_of, stays_behind, with_place, fresh, bytes_of, data_in};
+ghost use Rattle.h2_model.specs.Queue.{is_data, goes_last, is_free, is_free_of, stays_behind, with_place, fresh, bytes_of, data_in};
 ghost use Rattle.h2_frames.specs.Copied.{IsCopied};
 ghost use Rattle.h2_sender.specs.Outgoing.{IsSendable, IsOutgoing, written};
 ghost use Rattle.h2_sender.specs.Queue.{waits_for};
 
 use crate::frames::{
-    copy_bytes, data_in, has_bytes, is_block, is_data, is_reset, is_window, len_of, stream_of,
+    copy_bytes, data_in, has_bytes, is_ack, is_block, is_data, is_reset, is_window, len_of, stream_of,
 };
 use h2_frames::protocol::PREFACE;
 use h2_frames::{Frame, copy_into};
@@ -149,6 +149,13 @@ impl Outgoing {
         is_data(&self.frame) && !self.fixed
     }
 
+    /// Whether it goes to the end: an acknowledgement of SETTINGS stays behind DATA too (RFC 9113 section 6.9.2).
+    pub(crate) fn goes_last(&self) -> bool
+        ensures { result ≡ goes_last self.now }
+    {
+        self.is_free() || is_ack(&self.frame)
+    }
+
     pub(crate) fn is_free_of(&self, stream: u32) -> bool
         ensures { result ≡ is_free_of stream self.now }
     {
@@ -175,7 +182,7 @@ impl Outgoing {
     {
         let (block, before) = (is_block(&self.frame), is_block(&earlier.frame));
         let same = stream_of(&self.frame) == stream_of(&earlier.frame);
-        (block && before) || ((block || is_reset(&self.frame) || before) && same)
+        (block && (before || is_ack(&earlier.frame))) || ((block || is_reset(&self.frame) || before) && same)
     }
 
     /// How many bytes of DATA it has for a stream, or, for stream 0, for any.
@@ -183,13 +190,6 @@ impl Outgoing {
         ensures { result ≡ data_in stream self.now.frame }
     {
         data_in(stream, &self.frame)
-    }
-
-    /// Of those the ones that others may pass.
-    pub(crate) fn free_data(&self, stream: u32) -> u64
-        ensures { result ≡ (if is_free self.now then data_in stream self.now.frame else 0) }
-    {
-        if self.is_free() { self.data(stream) } else { 0 }
     }
 
     /// How many bytes of DATA for a stream weren't given.

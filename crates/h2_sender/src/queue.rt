@@ -11,7 +11,7 @@ ghost use Rattle.h2_sender.specs.Queue.{waits_for};
 
 use crate::frames::data_in;
 use crate::outgoing::Outgoing;
-use crate::places::{make_ready, place};
+use crate::places::{drops, front_of, make_ready, place};
 use crate::sums;
 use h2_frames::protocol::{ENABLE_PUSH, MAX_CONCURRENT_STREAMS};
 use h2_frames::{Frame, Setting, SettingList};
@@ -33,6 +33,10 @@ pub struct FrameQueue {
     frames: VecDeque<Outgoing>,
     // The bytes of all DATA, those of a begun frame among them.
     data: u64,
+    // The bytes of the other frames that weren't given, counted to 2^64 - 1.
+    control: u64,
+    // So many frames stand before the first DATA that others may pass.
+    front: usize,
 }
 
 impl Model for FrameQueue {
@@ -44,7 +48,19 @@ impl Model for FrameQueue {
 
     ghost view = { λ q. record { frames = q.frames.items; room = deque_capacity q.frames - deque_len q.frames } };
 
-    ghost invariant = { λ q. IsCounted q.frames.items q.«data» };
+    ghost invariant = { λ q. IsCounted q.frames.items q.«data» q.control q.front };
+}
+
+// The bytes of frames other than DATA once so many of them were given, counted to 2^64 - 1: a count that reached that
+// bound isn't their sum, so it is made anew.
+fn control_behind(frames: &VecDeque<Outgoing>, before: u64, given: u64) -> u64
+    requires { before ≡ min (control_bytes frames.now.items + given) (2 ^ 64 - 1) }
+    ensures { result ≡ min (control_bytes frames.now.items) (2 ^ 64 - 1) }
+{
+    if before == u64::MAX {
+        return sums::control(frames);
+    }
+    before - given
 }
 
 // A client disables push; a server allows 256 streams: RFC 9113 section 6.5.2.
@@ -77,7 +93,14 @@ impl FrameQueue {
         let mut frames = VecDeque::new(alloc);
         frames.reserve(room.saturating_add(1))?;
         frames.push_back(Outgoing::first(settings, client))?;
-        Ok(FrameQueue { frames, data: 0 })
+        let control = sums::control(&frames);
+        let front = front_of(&frames, 0);
+        Ok(FrameQueue {
+            frames,
+            data: 0,
+            control,
+            front,
+        })
     }
 
     /// Makes room for so many more frames. Out of memory the queue stays as it was.
@@ -89,10 +112,10 @@ impl FrameQueue {
         self.frames.reserve(n)
     }
 
-    /// A frame enters at its place: DATA at the end, and another frame before DATA that it needn't stay behind. It
-    /// stays behind what is of its stream where one of the two is a field block or it is a reset, and blocks stay in
-    /// their order. A payload has at most 16,384 bytes, and a block, which is cut as it is given, any length. All DATA
-    /// together has at most 2^40 bytes.
+    /// A frame enters at its place: DATA and an acknowledgement at the end, and another frame before DATA that it
+    /// needn't stay behind. It stays behind what is of its stream where one of the two is a field block or it is a
+    /// reset, and blocks stay in their order and behind acknowledgements. A payload has at most 16,384 bytes, and a
+    /// block, which is cut as it is given, any length. All DATA together has at most 2^40 bytes.
     pub fn enter(&mut self, frame: Frame)
         requires sendable { IsSendable frame }
         requires room { 0 < self.old.room }
@@ -102,8 +125,10 @@ impl FrameQueue {
         ensures capacity { self.old.room + length self.old.frames ≤ self.new.room + length self.new.frames }
     {
         let added = data_in(0, &frame);
-        make_ready(&mut self.frames, &frame);
-        place(&mut self.frames, Outgoing::fresh(frame));
+        let front = make_ready(&mut self.frames, self.front, &frame);
+        let new = Outgoing::fresh(frame);
+        self.control = self.control.saturating_add(new.control());
+        self.front = place(&mut self.frames, front, new);
         self.data += added;
     }
 
@@ -113,32 +138,25 @@ impl FrameQueue {
         ensures dropped { result ≡ queued 0 self.old.frames - queued 0 self.new.frames }
         ensures capacity { self.old.room + length self.old.frames ≤ self.new.room + length self.new.frames }
     {
+        if !drops(&self.frames, self.front, stream) {
+            return 0;
+        }
         let before = self.data;
         self.frames.retain(|w| !w.is_dropped(stream));
         self.data = sums::queued(&self.frames, 0);
+        self.front = front_of(&self.frames, self.front);
         before - self.data
     }
 
-    /// Drops all DATA that others may pass, and tells how many bytes it had.
-    pub fn drop_free(&mut self) -> u64
+    /// Drops all DATA that others may pass.
+    pub fn drop_free(&mut self)
         ensures frames { self.new.frames ≡ filter (λ w. not (is_free w)) self.old.frames }
-        ensures dropped { result ≡ queued 0 self.old.frames - queued 0 self.new.frames }
         ensures room { self.old.room ≤ self.new.room }
         ensures capacity { self.old.room + length self.old.frames ≤ self.new.room + length self.new.frames }
     {
-        let before = self.data;
         self.frames.retain(|w| !w.is_free());
         self.data = sums::queued(&self.frames, 0);
-        before - self.data
-    }
-
-    /// The bytes of a stream's DATA that others may pass: those that `drop_free` would drop.
-    pub fn free_data(&self, stream: u32) -> u64
-        ensures count { result
-            ≡ queued stream self.now.frames - queued stream (filter (λ w. not (is_free w)) self.now.frames) }
-        ensures bound { result ≤ 2 ^ 40 }
-    {
-        sums::free_data(&self.frames, stream)
+        self.front = front_of(&self.frames, self.front);
     }
 
     /// Gives the next bytes, those of the first frame that fit.
@@ -165,12 +183,18 @@ impl FrameQueue {
                 whole: None,
             };
         };
+        let before = first.control();
         let bytes = first.give(out) as u32;
+        let given = before - first.control();
         if first.left() > 0 {
             frames.push_front_reserved(first);
+            self.control = control_behind(&self.frames, self.control, given);
+            self.front = front_of(&self.frames, self.front);
             return Taken { bytes, whole: None };
         }
         self.data -= first.data(0);
+        self.control = control_behind(&self.frames, self.control, given);
+        self.front = front_of(&self.frames, self.front.saturating_sub(1));
         Taken {
             bytes,
             whole: Some(first.into_frame()),
@@ -190,6 +214,9 @@ impl FrameQueue {
         ensures count { result ≡ unsent stream self.now.frames }
         ensures bound { result ≤ 2 ^ 40 }
     {
+        if self.data == 0 {
+            return 0;
+        }
         sums::unsent(&self.frames, stream)
     }
 
@@ -197,7 +224,7 @@ impl FrameQueue {
     pub fn control(&self) -> u64
         ensures { result ≡ min (control_bytes self.now.frames) (2 ^ 64 - 1) }
     {
-        sums::control(&self.frames)
+        self.control
     }
 
     /// Whether a frame of a stream waits that is no window update.

@@ -2,7 +2,6 @@
 
 ghost use Rattle.std.specs.Prelude.{◌≡◌, ◌≤◌, ◌-◌, ◌^◌, min, sum_by};
 ghost use Rattle.h2_model.specs.Queue.{queued, unsent, control_bytes};
-ghost use Rattle.h2_sender.specs.Queue.{free_data};
 
 use crate::outgoing::Outgoing;
 use std::collections::VecDeque;
@@ -17,18 +16,6 @@ pub(crate) fn queued(frames: &VecDeque<Outgoing>, stream: u32) -> u64
     let mut sum = 0;
     for i in 0..frames.len() {
         sum += frames[i].data(stream);
-    }
-    sum
-}
-
-/// Of those the ones that others may pass.
-pub(crate) fn free_data(frames: &VecDeque<Outgoing>, stream: u32) -> u64
-    requires { free_data stream frames.now.items ≤ 2 ^ 40 }
-    ensures { result ≡ free_data stream frames.now.items }
-{
-    let mut sum = 0;
-    for i in 0..frames.len() {
-        sum += frames[i].free_data(stream);
     }
     sum
 }

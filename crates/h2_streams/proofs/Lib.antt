@@ -1,4 +1,5 @@
 pub mod Places
+pub mod Gaps
 pub mod Kept
 pub mod Accounted
 pub mod Rows

@@ -1,4 +1,5 @@
 pub mod Tables
+pub mod Gaps
 pub mod Changes
 pub mod Rows
 pub mod Settings

@@ -3,13 +3,15 @@
 ghost use Rattle.std.specs.Prelude.{◌≡◌, ◌≤◌, ◌<◌, ◌+◌, ◌-◌, ◌%◌, ◌^◌, ◌++◌, ◌∷◌, [], if◌then◌else◌, ◌==◌, OnOk, OnErr, true};
 ghost use Rattle.std.specs.List.{list_any};
 ghost use Rattle.h2_model.specs.Numbers.{has, is_within, may_have, last_of, with_number};
+ghost use Rattle.h2_streams.specs.Gaps.{Ascends};
 
 use h2_model::Gap;
 use std::alloc::{AllocError, Global};
 use std::marker::Model;
 
-/// How many gaps are kept. A peer that passes over numbers more often is answered as out of memory.
-const MOST_GAPS: usize = 1_024;
+/// How many gaps are kept, which take 8 MiB: a peer may open 3, 7, 11, .. (RFC 9113 section 5.1.1), and has sent 9 MiB
+/// of HEADERS for so many. One that passes over numbers more often is answered as out of memory.
+const MOST_GAPS: usize = 1 << 20;
 
 /// The numbers of the streams that were opened, which are odd: RFC 9113 section 5.1.1. All below the next one were, but
 /// for those that a peer passed over.
@@ -23,18 +25,25 @@ pub struct Numbers {
 impl Model for Numbers {
     ghost use Rattle.std.specs.Prelude.{◌≡◌, ◌≤◌, ◌<◌, ◌+◌, ◌%◌, ◌^◌};
     ghost use Rattle.h2_model.specs.Numbers.{Numbers};
+    ghost use Rattle.h2_streams.specs.Gaps.{AreGaps};
 
     ghost Value = { Numbers };
 
     ghost view = { λ n. record { next = n.next; gaps = n.gaps.items } };
 
-    ghost invariant = { λ n. (n.next % 2 ≡ 1) × (n.next ≤ 2 ^ 31 + 1) };
+    ghost invariant = { λ n. (n.next % 2 ≡ 1) × (n.next ≤ 2 ^ 31 + 1) × AreGaps n.gaps.items n.next };
 }
 
+// The first gap that doesn't end below a number is the one that may have it.
 fn is_within(gaps: &[Gap], id: u32) -> bool
+    requires { Ascends gaps.now }
     ensures { result ≡ list_any (is_within id) gaps.now }
 {
-    gaps.iter().any(|gap| gap.first <= id && id <= gap.last)
+    let at = gaps.partition_point(|gap| gap.last < id);
+    if at >= gaps.len() {
+        return false;
+    }
+    gaps[at].first <= id
 }
 
 impl Numbers {

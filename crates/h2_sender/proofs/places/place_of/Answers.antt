@@ -1,13 +1,14 @@
--- DATA that others may pass goes to the end; the search ends at a frame that blocks the way.
-use Rattle.std.proofs.Common.{arith, rules, ◌≡◌, ◌<◌, ◌+◌, ◌-◌, true, List, length, get_or, drop, ℕ, ap, sym, ◌∙◌}
+-- What goes last goes to the end; the search ends at a frame that blocks the way.
+use Rattle.std.proofs.Common.{arith, rules, ◌≡◌, ◌<◌, ◌+◌, ◌-◌, true, List, [], refl, length, get_or, drop, ℕ, ap, sym, ◌∙◌}
 use Rattle.h2_model.specs.Queue.{Waiting, stays_behind}
 use Rattle.h2_sender.specs.Places.{place_of}
-use Rattle.h2_sender.proofs.Placed.{place_of_free, place_blocked}
+use Rattle.h2_sender.proofs.Placed.{place_of_last, place_blocked}
+use Rattle.h2_sender.proofs.Front.{front_within, none_behind, place_behind}
 use Rattle.h2_sender.proofs.places.place_of.Goals as goal
 
-pub returns-then-is_free : goal.returns-then-is_free
-returns-then-is_free c =
-    let end = place_of_free c.args.new.now c.args.frames.now.items (sym c.is_free.ensures ∙ c.if-is_free.true) in
+pub returns-then-goes_last : goal.returns-then-goes_last
+returns-then-goes_last c =
+    let end = place_of_last c.args.new.now c.args.frames.now.items (sym c.goes_last.ensures ∙ c.if-goes_last.true) in
     search rules
 
 pub returns-then-stays_behind : goal.returns-then-stays_behind
@@ -18,6 +19,19 @@ returns-then-stays_behind c =
     let there : c.places.i - 1 < length queue = search rules in
     let blocks : stays_behind c.args.new.now.frame (get_or queue (c.places.i - 1) earlier) ≡ true =
     ap (stays_behind c.args.new.now.frame) (sym c.index-earlier.ensures) ∙ sym c.stays_behind.ensures ∙ c.if-stays_behind.true in
-    c.places.invariant.0
+    c.places.invariant.1
     ∙ ap (λ (n : ℕ). n + place_of c.args.new.now (drop n queue)) (sym next)
     ∙ sym (place_blocked c.args.new.now queue (c.places.i - 1) earlier there blocks)
+
+pub returns : goal.returns
+returns c =
+    let there : c.places.i ≡ c.args.front = omega arith in
+    c.places.invariant.1
+    ∙ ap (λ (n : ℕ). n + place_of c.args.new.now (drop n c.args.frames.now.items)) there
+    ∙ sym (place_behind c.args.new.now c.args.front c.args.frames.now.items c.requires)
+
+pub places-init : goal.places-init
+places-init c =
+    let within = front_within c.args.front c.args.frames.now.items c.requires in
+    let none : drop c.len-len.result c.args.frames.now.items ≡ [] = none_behind c.len-len.result c.args.frames.now.items (search rules) in
+    (omega arith, rw none (omega arith), rw none refl)

@@ -1,10 +1,12 @@
 -- Only the other frames stay.
-use Rattle.std.proofs.Common.{arith, rules, ◌≡◌, ◌≤◌, Bool, not, ap, ◌∙◌}
-use Rattle.std.specs.List.{filter}
+use Rattle.std.proofs.Common.{arith, rules, ◌≡◌, ◌≤◌, ◌^◌, Bool, false, not, ap, sym, subst, ◌∙◌}
+use Rattle.std.specs.List.{filter, list_any}
 use Rattle.std.proofs.lemmas.Fn.{filter_same}
-use Rattle.h2_model.specs.Moves.{is_dropped}
+use Rattle.h2_model.specs.Moves.{is_dropped, kept_waiting}
 use Rattle.h2_model.specs.Queue.{Waiting, queued}
+use Rattle.h2_sender.specs.Places.{IsFront}
 use Rattle.h2_sender.specs.Queue.{Queue}
+use Rattle.h2_sender.proofs.Front.{front_kept, kept_unless_dropped, all_kept}
 use Rattle.h2_sender.proofs.Totals.{counted_kept, queued_kept}
 use Rattle.h2_sender.proofs.queue.FrameQueue.drop_data.Goals as goal
 
@@ -12,7 +14,16 @@ pub queued-self-inside-requires : goal.queued-self-inside-requires
 queued-self-inside-requires c =
     let p : Waiting → Bool = λ (w : Waiting). not (is_dropped c.args.stream w) in
     let kept : c.retain.new.self.items ≡ filter p c.self.inside.frames.items = filter_same _ p _ (λ x b f k. search rules) _ _ c.retain.ensures.filtered in
-    rw kept (counted_kept p c.self.inside.frames.items c.self.inside.«data» c.self.invariant).bound
+    let fewer : queued 0 c.retain.new.self.items ≤ queued 0 c.self.inside.frames.items = rw kept (queued_kept 0 p c.self.inside.frames.items) in
+    let counted : c.self.inside.«data» ≡ queued 0 c.self.inside.frames.items = c.self.invariant.counted in
+    let bound : c.self.inside.«data» ≤ 2 ^ 40 = c.self.invariant.bound in
+    omega arith
+
+pub front_of-self-inside-requires : goal.front_of-self-inside-requires
+front_of-self-inside-requires c =
+    let p : Waiting → Bool = λ (w : Waiting). not (is_dropped c.args.stream w) in
+    let kept : c.retain.new.self.items ≡ filter p c.self.inside.frames.items = filter_same _ p _ (λ x b f k. search rules) _ _ c.retain.ensures.filtered in
+    rw kept (front_kept p (kept_unless_dropped c.args.stream) c.self.inside.front c.self.inside.frames.items c.self.invariant.front)
 
 pub overflow_sub-result : goal.overflow_sub-result
 overflow_sub-result c =
@@ -27,10 +38,16 @@ pub invariant_of-self : goal.invariant_of-self
 invariant_of-self c =
     let p : Waiting → Bool = λ (w : Waiting). not (is_dropped c.args.stream w) in
     let kept : c.retain.new.self.items ≡ filter p c.self.inside.frames.items = filter_same _ p _ (λ x b f k. search rules) _ _ c.retain.ensures.filtered in
-    rw c.queued-self-inside.ensures (rw kept (counted_kept p c.self.inside.frames.items c.self.inside.«data» c.self.invariant))
+    let front : IsFront c.front_of-self-inside.result (filter p c.self.inside.frames.items) = subst (IsFront c.front_of-self-inside.result) kept c.front_of-self-inside.ensures in
+    rw c.queued-self-inside.ensures (rw kept (counted_kept p (kept_unless_dropped c.args.stream) c.self.inside.frames.items c.self.inside.«data» c.self.inside.control c.self.inside.front c.front_of-self-inside.result c.self.invariant front))
 
 pub returns-clause-frames : goal.returns-clause-frames
 returns-clause-frames c =
     let p : Waiting → Bool = λ (w : Waiting). not (is_dropped c.args.stream w) in
     let kept : c.retain.new.self.items ≡ filter p c.self.inside.frames.items = filter_same _ p _ (λ x b f k. search rules) _ _ c.retain.ensures.filtered in
     kept ∙ ap (λ (q : Queue). filter p q.frames) c.self.view_is
+
+pub returns-then-not-drops-clause-frames : goal.returns-then-not-drops-clause-frames
+returns-then-not-drops-clause-frames c =
+    let none : list_any (is_dropped c.args.stream) c.self.inside.frames.items ≡ false = search rules in
+    ap (λ (q : Queue). q.frames) (sym c.self.view_is) ∙ sym (all_kept (is_dropped c.args.stream) c.self.inside.frames.items none) ∙ ap (λ (q : Queue). kept_waiting c.args.stream q.frames) c.self.view_is

@@ -1,9 +1,11 @@
 -- The first frame is given, in part or whole.
-use Rattle.std.proofs.Common.{arith, rules, ◌≡◌, ◌<◌, ◌∷◌, [], true, List, length, drop, length-drop, ap, sym, subst, refl, ◌∙◌}
+use Rattle.std.proofs.Common.{arith, rules, ◌≡◌, ◌<◌, ◌-◌, ◌^◌, ◌∷◌, [], true, List, length, drop, min, length-drop, ap, sym, subst, refl, ◌∙◌}
 use Rattle.std.proofs.lemmas.List.Elements.{All-head, All-tail}
 use Rattle.h2_frames.specs.declared.frame.Frame.{Frame}
-use Rattle.h2_model.specs.Queue.{Waiting, behind, whole_within, data_in}
+use Rattle.h2_model.specs.Queue.{Waiting, behind, whole_within, data_in, control_bytes}
+use Rattle.h2_sender.specs.Places.{IsFront}
 use Rattle.h2_sender.specs.Queue.{Queue, HasLeft, IsCounted}
+use Rattle.h2_sender.proofs.Front.{begun_stays, front_begun, front_given}
 use Rattle.h2_sender.proofs.Totals.{counted_some, counted_all}
 use Rattle.h2_sender.proofs.Gives.{behind_none, none_whole, behind_all, whole_all}
 use Rattle.h2_sender.proofs.queue.FrameQueue.take.Goals as goal
@@ -15,28 +17,57 @@ pub returns-then-is_empty-clause-whole : goal.returns-then-is_empty-clause-whole
 returns-then-is_empty-clause-whole c =
     ap (λ (q : Queue). whole_within 0 q.frames) (sym c.self.view_is) ∙ none_whole c.self.inside.frames.items c.self.invariant.left
 
+pub front_of-self-inside-requires : goal.front_of-self-inside-requires
+front_of-self-inside-requires c =
+    let first : Waiting = c.in-Some.first in
+    let rest : List Waiting = c.pop_front.new.self.items in
+    let next : Waiting = record first { left = drop c.give-bytes.result first.left; fixed = true } in
+    let before : IsCounted (first ∷ rest) c.self.inside.«data» c.self.inside.control c.self.inside.front =
+    subst (λ (q : List Waiting). IsCounted q c.self.inside.«data» c.self.inside.control c.self.inside.front) c.in-Some.ensures.items c.self.invariant in
+    let items : c.push_front_reserved.new.self.items ≡ next ∷ rest = c.push_front_reserved.ensures.items ∙ ap (λ (w : Waiting). w ∷ rest) c.give-bytes.ensures.rest in
+    rw items (front_begun c.self.inside.front first next rest before.front (begun_stays first (drop c.give-bytes.result first.left)))
+
 pub invariant_of-self-then-left-gt0 : goal.invariant_of-self-then-left-gt0
 invariant_of-self-then-left-gt0 c =
+    let first : Waiting = c.in-Some.first in
     let rest : List Waiting = c.pop_front.new.self.items in
-    let next : Waiting = record c.in-Some.first { left = drop c.give-bytes.result c.in-Some.first.left; fixed = true } in
-    let before : IsCounted (c.in-Some.first ∷ rest) c.self.inside.«data» = subst (λ (q : List Waiting). IsCounted q c.self.inside.«data») c.in-Some.ensures.items c.self.invariant in
+    let next : Waiting = record first { left = drop c.give-bytes.result first.left; fixed = true } in
+    let before : IsCounted (first ∷ rest) c.self.inside.«data» c.self.inside.control c.self.inside.front =
+    subst (λ (q : List Waiting). IsCounted q c.self.inside.«data» c.self.inside.control c.self.inside.front) c.in-Some.ensures.items c.self.invariant in
+    let items : c.push_front_reserved.new.self.items ≡ next ∷ rest = c.push_front_reserved.ensures.items ∙ ap (λ (w : Waiting). w ∷ rest) c.give-bytes.ensures.rest in
     let size = ap (λ (w : Waiting). length w.left) c.give-bytes.ensures.rest in
     let left : 0 < length next.left = omega arith in
-    let items : c.push_front_reserved.new.self.items ≡ next ∷ rest = c.push_front_reserved.ensures.items ∙ ap (λ (w : Waiting). w ∷ rest) c.give-bytes.ensures.rest in
-    rw items (counted_some c.in-Some.first next rest c.self.inside.«data» before refl left)
+    let control : c.control_behind-self-inside.result ≡ min (control_bytes (next ∷ rest)) (2 ^ 64 - 1) =
+    c.control_behind-self-inside.ensures ∙ ap (λ (q : List Waiting). min (control_bytes q) (2 ^ 64 - 1)) items in
+    let front : IsFront c.front_of-self-inside.result (next ∷ rest) = subst (IsFront c.front_of-self-inside.result) items c.front_of-self-inside.ensures in
+    rw items (counted_some first next rest c.self.inside.«data» c.self.inside.control c.self.inside.front c.control_behind-self-inside.result c.front_of-self-inside.result before refl left control front)
+
+pub front_of-self-inside-requires-2 : goal.front_of-self-inside-requires-2
+front_of-self-inside-requires-2 c =
+    let first : Waiting = c.in-Some.first in
+    let rest : List Waiting = c.pop_front.new.self.items in
+    let next : Waiting = record first { left = drop c.give-bytes.result first.left; fixed = true } in
+    let before : IsCounted (first ∷ rest) c.self.inside.«data» c.self.inside.control c.self.inside.front =
+    subst (λ (q : List Waiting). IsCounted q c.self.inside.«data» c.self.inside.control c.self.inside.front) c.in-Some.ensures.items c.self.invariant in
+    let less : c.saturating_sub.result ≡ c.self.inside.front - 1 = search rules in
+    rw less (front_given c.self.inside.front first rest before.front)
 
 pub invariant_of-self-2 : goal.invariant_of-self-2
 invariant_of-self-2 c =
+    let first : Waiting = c.in-Some.first in
     let rest : List Waiting = c.pop_front.new.self.items in
-    let before : IsCounted (c.in-Some.first ∷ rest) c.self.inside.«data» = subst (λ (q : List Waiting). IsCounted q c.self.inside.«data») c.in-Some.ensures.items c.self.invariant in
-    let given : c.data.result ≡ data_in 0 c.in-Some.first.frame = c.data.ensures ∙ ap (λ (w : Waiting). data_in 0 w.frame) c.give-bytes.ensures.rest in
-    rw given (counted_all c.in-Some.first rest c.self.inside.«data» before)
+    let next : Waiting = record first { left = drop c.give-bytes.result first.left; fixed = true } in
+    let before : IsCounted (first ∷ rest) c.self.inside.«data» c.self.inside.control c.self.inside.front =
+    subst (λ (q : List Waiting). IsCounted q c.self.inside.«data» c.self.inside.control c.self.inside.front) c.in-Some.ensures.items c.self.invariant in
+    let given : c.data.result ≡ data_in 0 first.frame = c.data.ensures ∙ ap (λ (w : Waiting). data_in 0 w.frame) c.give-bytes.ensures.rest in
+    rw given (counted_all first rest c.self.inside.«data» c.self.inside.control c.self.inside.front c.control_behind-self-inside-2.result c.front_of-self-inside-2.result before c.control_behind-self-inside-2.ensures c.front_of-self-inside-2.ensures)
 
 pub returns-clause-frames : goal.returns-clause-frames
 returns-clause-frames c =
     let first : Waiting = c.in-Some.first in
     let rest : List Waiting = c.pop_front.new.self.items in
-    let before : IsCounted (first ∷ rest) c.self.inside.«data» = subst (λ (q : List Waiting). IsCounted q c.self.inside.«data») c.in-Some.ensures.items c.self.invariant in
+    let before : IsCounted (first ∷ rest) c.self.inside.«data» c.self.inside.control c.self.inside.front =
+    subst (λ (q : List Waiting). IsCounted q c.self.inside.«data» c.self.inside.control c.self.inside.front) c.in-Some.ensures.items c.self.invariant in
     let here : 0 < length first.left = All-head HasLeft first rest before.left in
     let size = ap (λ (w : Waiting). length w.left) c.give-bytes.ensures.rest in
     let left = length-drop c.give-bytes.result first.left in
@@ -51,7 +82,8 @@ pub returns-clause-whole : goal.returns-clause-whole
 returns-clause-whole c =
     let first : Waiting = c.in-Some.first in
     let rest : List Waiting = c.pop_front.new.self.items in
-    let before : IsCounted (first ∷ rest) c.self.inside.«data» = subst (λ (q : List Waiting). IsCounted q c.self.inside.«data») c.in-Some.ensures.items c.self.invariant in
+    let before : IsCounted (first ∷ rest) c.self.inside.«data» c.self.inside.control c.self.inside.front =
+    subst (λ (q : List Waiting). IsCounted q c.self.inside.«data» c.self.inside.control c.self.inside.front) c.in-Some.ensures.items c.self.invariant in
     let size = ap (λ (w : Waiting). length w.left) c.give-bytes.ensures.rest in
     let left = length-drop c.give-bytes.result first.left in
     let all : c.give-bytes.result ≡ length first.left = omega arith in

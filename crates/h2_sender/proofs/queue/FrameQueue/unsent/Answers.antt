@@ -1,7 +1,8 @@
 -- One stream has no more DATA than all.
-use Rattle.std.proofs.Common.{arith, ◌≡◌, ◌≤◌, ◌^◌}
+use Rattle.std.proofs.Common.{arith, ◌≡◌, ◌≤◌, ◌^◌, sym, ap, ◌∙◌}
 use Rattle.h2_model.specs.Queue.{queued, unsent}
-use Rattle.h2_sender.proofs.Totals.{unsent_of_one}
+use Rattle.h2_sender.specs.Queue.{Queue}
+use Rattle.h2_sender.proofs.Totals.{unsent_of_one, no_data}
 use Rattle.h2_sender.proofs.queue.FrameQueue.unsent.Goals as goal
 
 pub unsent-requires : goal.unsent-requires
@@ -18,3 +19,8 @@ returns-clause-bound c =
     let counted : c.self.inside.«data» ≡ queued 0 c.self.inside.frames.items = c.self.invariant.counted in
     let bound : c.self.inside.«data» ≤ 2 ^ 40 = c.self.invariant.bound in
     omega arith
+
+pub returns-then-self-eq0-clause-count : goal.returns-then-self-eq0-clause-count
+returns-then-self-eq0-clause-count c =
+    sym (ap (λ (q : Queue). unsent c.args.stream q.frames) (sym c.self.view_is)
+    ∙ no_data c.args.stream c.self.inside.«data» c.self.inside.frames.items c.self.invariant.counted c.if-self-eq0.true)
