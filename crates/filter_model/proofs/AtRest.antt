@@ -18,7 +18,7 @@ use Rattle.filter_model.specs.View.{ViewEntry, Given}
 use Rattle.filter_model.specs.Right.{Call, Stepped, Took, Nexted, Failed, IsHistory, account}
 use Rattle.filter_model.specs.declared.calls.Taken.TheVariants.{Piece}
 use Rattle.filter_model.proofs.Kept.{gathered-fate}
-use Rattle.filter_model.proofs.CourseGrows.{Sound}
+use Rattle.filter_model.specs.Sound.{Sound}
 use Rattle.filter_model.proofs.StepGrows.{Held, settled_goes, accepted_goes, gathered_goes}
 use Rattle.filter_model.proofs.ReadAlong.{Fits, reads_on}
 use Rattle.filter_model.proofs.GivenRight.{Along, along, fits}

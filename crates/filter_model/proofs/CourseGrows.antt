@@ -18,6 +18,7 @@ use Rattle.http_model.specs.declared.types.Direction.{Direction}
 use Rattle.filter_model.specs.Config.{CourseConfig}
 use Rattle.filter_model.specs.Course.{Course, AskedPart, Headers, Body, Trailers, Outgoing, changed, changed_at, kept, is_bare, replacement, replacement_at, committed, is_passing, passing_at, is_body_done, answered_pieces, answered_piece, pairs, out, bytes_in, asked_bytes, changed_trailers, trailers_at, is_body, is_headers, is_trailers, is_stopped, is_buffered, mode, mode_at, next_body, body_at, next, next_at, one_asked, is_permitted, due, answer_to, under, next_trailers, next_streamed}
 use Rattle.filter_model.specs.Grown.{Grown, BodyGoesOn}
+use Rattle.filter_model.specs.Sound.{Sound, once}
 use Rattle.filter_model.proofs.Growing.{grown_same}
 use Rattle.http_model.proofs.BodiesGrow.{is_first, itself}
 
@@ -139,28 +140,7 @@ drop_more (z ∷ xs) [] x more y e = ap (λ l. elim l [ [] ↦ xs | q ∷ qs ↦
 drop_more [] (w ∷ ys) x more y e = absurd cc
 drop_more (z ∷ xs) (w ∷ ys) x more y e = drop_more xs ys x more y e
 
--- What a course keeps to
-
-abbrev pub once : (AskedPart → Bool) → List AskedPart → Bool
-once kind [] = true
-once kind (p ∷ asks) = if kind p then not (list_any kind asks) else once kind asks
-
-pub record Sound (c : CourseConfig) (w : Course) : Type 0 where
-  pub counts : length w.answers ≤ length w.asks
-  pub head_read : w.original.head ≡ None → (w.head ≡ None) × (w.asks ≡ [])
-  pub bodiless : is_bodiless w.original.length ≡ true → w.original.body ≡ []
-  pub once_headers : once is_headers w.asks ≡ true
-  pub once_trailers : once is_trailers w.asks ≡ true
-  pub headers : w.modes.headers ≡ false → list_any is_headers w.asks ≡ false
-  pub trailers : list_any is_trailers w.asks ≡ true → is_empty w.original.trailers ≡ false
-  -- no piece is asked before the headers are answered
-  pub in_turn : list_any is_headers (out w) ≡ true → list_any is_body w.asks ≡ false
-  -- what is asked whole is all of the body
-  pub covered : is_buffered w.modes.body ≡ true → list_any is_body w.asks ≡ true
-      → (w.original.whole ≡ true) × (drop (asked_bytes w.asks) w.original.body ≡ [])
-  -- once the head has gone, the headers ask is answered or was none, or the rest passes
-  pub no_headers : (h : Outgoing) → w.head ≡ Some h → w.released ≡ false → list_any is_headers (out w) ≡ false
-  pub first_made : (h : Outgoing) → w.head ≡ Some h → w.released ≡ false → (w.modes.headers && is_empty w.asks) ≡ false
+-- An ask that is made once
 
 pub any_of_drop : {A B : Type 0} (k : A → Bool) (xs : List A) (ys : List B) → list_any k (drop (length ys) xs) ≡ true → list_any k xs ≡ true
 any_of_drop k xs [] e = e
@@ -387,7 +367,7 @@ body_pick false false Partial a b p true x o e = absurd cc
 body_pick false false Partial a b p false x true e = refl
 body_pick false false Partial a b p false x false e = refl
 
-not_passing : (c : CourseConfig) (w : Course) (x : AskedPart) → w.released ≡ false → next_body c w ≡ Some x → is_passing w ≡ false
+pub not_passing : (c : CourseConfig) (w : Course) (x : AskedPart) → w.released ≡ false → next_body c w ≡ Some x → is_passing w ≡ false
 unfolding next_body
 not_passing c w x r e =
     ap (λ b. passing_at b (list_any is_body (out w)) (is_stopped w) (mode w) (list_any is_body w.asks)) r
@@ -436,7 +416,7 @@ or_none false false e = refl
 pub any_same : {A : Type 0} (k : A → Bool) (xs : List A) (x : A) → k x ≡ false → list_any k (xs ++ x ∷ []) ≡ list_any k xs
 any_same k xs x e = list_any-append k xs (x ∷ []) ∙ or_none (list_any k xs) (k x) e
 
-passing_same : (w : Course) (x : AskedPart) → length w.answers ≤ length w.asks → is_body x ≡ false → is_passing (with_ask x w) ≡ is_passing w
+pub passing_same : (w : Course) (x : AskedPart) → length w.answers ≤ length w.asks → is_body x ≡ false → is_passing (with_ask x w) ≡ is_passing w
 passing_same w x n e =
     ap (λ o. passing_at w.released o (is_stopped w) (mode (with_ask x w)) (list_any is_body (with_ask x w).asks))
     (ap (list_any is_body) (drop_longer w.asks (x ∷ []) w.answers n) ∙ any_same is_body (out w) x e)
@@ -502,7 +482,7 @@ pub and_second : (x y : Bool) → (x && y) ≡ true → y ≡ true
 and_second true y e = e
 and_second false y e = absurd cc
 
-no_bytes : (asks : List AskedPart) → list_any is_body asks ≡ false → sum_by (λ p. length (bytes_in p)) asks ≡ 0
+pub no_bytes : (asks : List AskedPart) → list_any is_body asks ≡ false → sum_by (λ p. length (bytes_in p)) asks ≡ 0
 no_bytes [] e = refl
 no_bytes (p ∷ asks) e =
     let one : length (bytes_in p) ≡ 0 = bytes_of p (or_first (is_body p) (list_any is_body asks) e) in
@@ -518,7 +498,7 @@ no_bytes (p ∷ asks) e =
     sum_none n m e f = omega arith
 
 -- where no body ask is out, the asked bytes are the answered ones
-covered_pairs : (asks : List AskedPart) (answers : List Common) → list_any is_body (drop (length answers) asks) ≡ false
+pub covered_pairs : (asks : List AskedPart) (answers : List Common) → list_any is_body (drop (length answers) asks) ≡ false
     → sum_by (λ (q : AskedPart × Common). length (bytes_in q.0)) (zip asks answers) ≡ sum_by (λ p. length (bytes_in p)) asks
 covered_pairs [] answers e = refl
 covered_pairs (p ∷ asks) [] e = sym (no_bytes (p ∷ asks) e)

@@ -11,7 +11,8 @@ use Rattle.http_model.specs.Heads.{is_bodiless}
 use Rattle.http_model.specs.declared.types.Direction.{Direction}
 use Rattle.filter_model.specs.Config.{CourseConfig}
 use Rattle.filter_model.specs.Course.{Course, AskedPart, Headers, Body, Trailers, pairs, out, is_body, is_headers, is_trailers, is_stopped, is_buffered, mode_at, answer_to, replaces, head_may_go, next, next_at, due, is_permitted, one_asked, asked, ask_limit}
-use Rattle.filter_model.proofs.CourseGrows.{Sound, with_answer, pairs_more, once_out, zip_longer}
+use Rattle.filter_model.specs.Sound.{Sound}
+use Rattle.filter_model.proofs.CourseGrows.{with_answer, pairs_more, once_out, zip_longer}
 use Rattle.filter_model.proofs.Sounds.{one_asked_sound}
 
 pub record Firm (w : Course) : Type 0 where

@@ -16,7 +16,8 @@ use Rattle.http_model.specs.declared.types.Direction.{Direction}
 use Rattle.filter_model.specs.Config.{CourseConfig}
 use Rattle.filter_model.specs.Course.{Course, AskedPart, Headers, Body, Trailers, Outgoing, committed, outgoing, out, bytes_in, asked_bytes, is_body, is_headers, is_trailers, is_stopped, next_body, body_at, next, next_at, next_trailers, answer_to, replaces, is_buffered, next_streamed, lacks_last, is_permitted, due, one_asked, asked, changed}
 use Rattle.filter_model.specs.Grown.{Grown}
-use Rattle.filter_model.proofs.CourseGrows.{Sound, once, with_original, with_released, with_answer, with_ask, drop_more, any_of_drop, once_out, or_first, or_second, any_same, drop_longer, plus_none, last_of_and, one_asked_grows}
+use Rattle.filter_model.specs.Sound.{Sound, once}
+use Rattle.filter_model.proofs.CourseGrows.{with_original, with_released, with_answer, with_ask, drop_more, any_of_drop, once_out, or_first, or_second, any_same, drop_longer, plus_none, last_of_and, one_asked_grows}
 use Rattle.filter_model.proofs.Growing.{grown_then}
 
 true_is_not_false : true ≡ false → ⊥

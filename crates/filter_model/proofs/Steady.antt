@@ -19,7 +19,8 @@ use Rattle.filter_model.specs.Answers.{answered, answered_by, part_answered, joi
 use Rattle.filter_model.specs.Step.{step, step_if, after_end, still_counts, under_cut, under_departure, no_cut, cut, is_departure, is_live, accepted, with_ending, on, effect}
 use Rattle.filter_model.specs.View.{ViewEntry, Bytes, End, Lost, Answered, TooLong, Closed, NoStream, Tick, Starved, Sent, Given}
 use Rattle.filter_model.specs.declared.calls.Side.TheVariants.{Client, Upstream}
-use Rattle.filter_model.proofs.CourseGrows.{Sound, with_answer, or_first}
+use Rattle.filter_model.specs.Sound.{Sound}
+use Rattle.filter_model.proofs.CourseGrows.{with_answer, or_first}
 use Rattle.filter_model.proofs.StepGrows.{Held, settled_goes, asked_in_goes, accepted_goes, gathered_goes, answers_one, no_part_cut, Answers, kind_of_headers, override_kind, first_none}
 use Rattle.filter_model.proofs.ReadAlong.{Fits, reads_on}
 use Rattle.filter_model.proofs.GivenRight.{Along}

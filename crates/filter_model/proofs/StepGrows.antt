@@ -24,7 +24,8 @@ use Rattle.filter_model.specs.View.{ViewEntry, Bytes, End, Lost, Answered, TooLo
 use Rattle.filter_model.specs.declared.calls.Side.TheVariants.{Client, Upstream}
 use Rattle.filter_model.proofs.Kept.{was_none}
 use Rattle.filter_model.proofs.Growing.{grown_then, grown_same}
-use Rattle.filter_model.proofs.CourseGrows.{Sound, read_grows, commit_grows, release_grows, end_is_final, with_answer, no_head, join_grows, or_first}
+use Rattle.filter_model.specs.Sound.{Sound}
+use Rattle.filter_model.proofs.CourseGrows.{read_grows, commit_grows, release_grows, end_is_final, with_answer, no_head, join_grows, or_first}
 use Rattle.filter_model.proofs.Sounds.{release_sound, read_sound, commit_sound, asked_grows, join_sound, modes_sound}
 
 -- what a live account keeps to

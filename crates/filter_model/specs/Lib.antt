@@ -2,6 +2,7 @@ pub mod Config
 pub mod Course
 pub mod Outgoing
 pub mod Grown
+pub mod Sound
 pub mod Half
 pub mod View
 pub mod Account
