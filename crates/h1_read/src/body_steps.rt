@@ -122,6 +122,32 @@ fn section(alloc: Global, kept: &mut Vec<u8>, bytes: &[u8]) -> Result<Fed, Stop>
     ensures begun { KeepsBegun result kept.new.items }
     ensures memory { OnMemory result (kept.new.items ≡ kept.old.items) }
 {
+    if let Scan::Stop(n) = next_stop(section_place(b""), 0, bytes) {
+        let (part, _) = bytes.split_at(n);
+        match read_section(alloc, part)? {
+            SectionRead::Whole(trailers, used) => {
+                return Ok(Fed {
+                    stage: Stage::Over,
+                    piece: Piece::End(trailers),
+                    used: used as usize,
+                });
+            }
+            SectionRead::Bad => return Err(Stop::Bad),
+            SectionRead::Long => return Err(Stop::Long),
+            // Prover: isn't reached, since this part ends the section or makes it bad, which isn't proved.
+            SectionRead::Partial => (),
+        }
+    }
+    whole_section(alloc, kept, bytes)
+}
+
+// The same, read from all bytes.
+fn whole_section(alloc: Global, kept: &mut Vec<u8>, bytes: &[u8]) -> Result<Fed, Stop>
+    requires { length bytes.now < 2 ^ 32 }
+    ensures steps { BodySteps (rest.Trailers []) bytes.now kept.new.items result }
+    ensures begun { KeepsBegun result kept.new.items }
+    ensures memory { OnMemory result (kept.new.items ≡ kept.old.items) }
+{
     match read_section(alloc, bytes)? {
         SectionRead::Whole(trailers, used) => Ok(Fed {
             stage: Stage::Over,
