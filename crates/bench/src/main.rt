@@ -2,6 +2,7 @@
 //! what was measured, a size, the nanoseconds of all, and those of each part.
 #![tactic(auto)]
 
+mod floods;
 mod frames;
 mod h1;
 mod hpack;
@@ -23,6 +24,7 @@ frames        DATA frames of 16 KiB are read, a byte
 huffman       1 MiB of text is spelled as a Huffman string and read back, a byte of text
 hpack         header blocks of twelve fields are written and read, a block
 sessions      a server's session is fed frames of 1, 64 and 256 live streams, a frame, and 64 MiB on one, a byte
+floods        PING, SETTINGS, refused HEADERS, stream errors and resets come behind 1,000 and 7,000 waiting frames, each
 ";
 
 fn main(rt: HostRuntime) -> Result<()> {
@@ -41,6 +43,7 @@ fn main(rt: HostRuntime) -> Result<()> {
         "huffman" => hpack::measure_huffman(&rt),
         "hpack" => hpack::measure_blocks(&rt),
         "sessions" => sessions::measure(&rt),
+        "floods" => floods::measure(&rt),
         _ => Ok(eprint!(rt; "{LIST}")?),
     }
 }
