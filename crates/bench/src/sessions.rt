@@ -8,18 +8,18 @@ use std::time::Instant;
 
 const PREFACE: &[u8] = b"PRI * HTTP/2.0\r\n\r\nSM\r\n\r\n";
 
-const DATA: u8 = 0;
+pub(crate) const DATA: u8 = 0;
 
-const HEADERS: u8 = 1;
+pub(crate) const HEADERS: u8 = 1;
 
-const SETTINGS: u8 = 4;
+pub(crate) const SETTINGS: u8 = 4;
 
 const WINDOW_UPDATE: u8 = 8;
 
-const END_HEADERS: u8 = 4;
+pub(crate) const END_HEADERS: u8 = 4;
 
 /// `:method: GET`, a whole field block.
-const GET: &[u8] = b"\x82";
+pub(crate) const GET: &[u8] = b"\x82";
 
 /// How many frames a row has, about.
 const FRAMES: u64 = 400_000;
@@ -32,7 +32,14 @@ const PARTS: u64 = 4_096;
 /// The most bytes of a piece that is fed at once.
 const MOST: usize = 1 << 20;
 
-fn push_frame(bytes: &mut Vec<u8>, kind: u8, flags: u8, stream: u32, payload: &[u8]) -> Result<()> {
+/// Appends a frame.
+pub(crate) fn push_frame(
+    bytes: &mut Vec<u8>,
+    kind: u8,
+    flags: u8,
+    stream: u32,
+    payload: &[u8],
+) -> Result<()> {
     let size = u32::try_from(payload.len())?.to_be_bytes();
     bytes.extend_from_slice(&[size[1], size[2], size[3], kind, flags])?;
     bytes.extend_from_slice(stream.to_be_bytes().as_slice())?;
@@ -61,8 +68,8 @@ fn feed(session: &mut Session, bytes: &[u8]) -> Result<u64> {
     bail!("a piece brings too much")
 }
 
-// A server's end with so many streams open.
-fn server_with(alloc: Global, live: u32) -> Result<Session> {
+/// A server's end with so many streams open.
+pub(crate) fn server_with(alloc: Global, live: u32) -> Result<Session> {
     let mut bytes = PREFACE.to_vec(alloc)?;
     push_frame(&mut bytes, SETTINGS, 0, 0, b"")?;
     let mut stream: u32 = 1;

@@ -154,9 +154,11 @@ control_kept p keeps (w ∷ queue) = by (p w) refl (control_kept p keeps queue)
         apart : (b : Bool) → b ≡ true → b ≡ false → ⊥
         apart true t f = absurd (grind (arith, f))
         apart false t f = absurd (grind (arith, t))
+
         by : (d : Bool) → is_data w.frame ≡ d → is_data w.frame ≡ true
         by true d = d
         by false d = absurd (apart (p w) (keeps w (rw d refl)) e)
+
     by : (c : Bool) → p w ≡ c → control_bytes (filter p queue) ≡ control_bytes queue
         → control_bytes (cond c (w ∷ filter p queue) (filter p queue)) ≡ control_bytes (w ∷ queue)
     by true e ih = rw (sum_by-cons control_in w (filter p queue), sum_by-cons control_in w queue) (ap (λ k. control_in w + k) ih)

@@ -10,7 +10,8 @@ ghost use Rattle.h2_sender.specs.Outgoing.{IsSendable, IsOutgoing, written};
 ghost use Rattle.h2_sender.specs.Queue.{waits_for};
 
 use crate::frames::{
-    copy_bytes, data_in, has_bytes, is_ack, is_block, is_data, is_reset, is_window, len_of, stream_of,
+    copy_bytes, data_in, has_bytes, is_ack, is_block, is_data, is_reset, is_window, len_of,
+    stream_of,
 };
 use h2_frames::protocol::PREFACE;
 use h2_frames::{Frame, copy_into};
@@ -182,7 +183,8 @@ impl Outgoing {
     {
         let (block, before) = (is_block(&self.frame), is_block(&earlier.frame));
         let same = stream_of(&self.frame) == stream_of(&earlier.frame);
-        (block && (before || is_ack(&earlier.frame))) || ((block || is_reset(&self.frame) || before) && same)
+        (block && (before || is_ack(&earlier.frame)))
+            || ((block || is_reset(&self.frame) || before) && same)
     }
 
     /// How many bytes of DATA it has for a stream, or, for stream 0, for any.

@@ -45,6 +45,7 @@ parted gaps id up i j d l m e = below (rises i j d l m) e
   where
     below : {a b : ℕ} → a ≤ b → nat_lt b id ≡ true → nat_lt a id ≡ true
     below l e = grind (arith, common_steps, l, e)
+
     rises : (i j : ℕ) (d : Gap) → i ≤ j → j < length gaps → (slice_index_or gaps i d).last ≤ (slice_index_or gaps j d).last
     rises i j d l m = by (nat_lt i j) refl where
       by : (c : Bool) → nat_lt i j ≡ c → (slice_index_or gaps i d).last ≤ (slice_index_or gaps j d).last
