@@ -206,8 +206,8 @@ pub fn first_stop(place: Place, bytes: &[u8]) -> Scan
     Scan::Quiet(now)
 }
 
-/// The same of a head or a section of which so many bytes came before. The parser also has to read where it is too
-/// long.
+/// The same of a head or a section of which so many bytes came before. The parser also has to read where it may take no
+/// more.
 pub fn next_stop(place: Place, before: usize, bytes: &[u8]) -> Scan
     requires { before < 32768 }
     ensures { IsNextStop place before bytes.now result }
