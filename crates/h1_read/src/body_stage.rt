@@ -23,13 +23,13 @@ use std::alloc::AllocError;
 pub(crate) enum Stage {
     /// So many bytes are left.
     Known(u64),
-    /// In the line of a chunk, here; its bytes so far are kept.
+    /// In the line of a chunk; its bytes so far are kept, and end at this place.
     Line(ChunkPlace),
     /// So many bytes of a chunk's data are left, and then CR LF.
     Chunk(u64),
     /// Before the LF of a chunk's end.
     Lf,
-    /// In the trailer section, here; its bytes so far are kept.
+    /// In the trailer section; its bytes so far are kept, and end at this place.
     Trailers(Place),
     /// The body ends with the connection.
     Close,
