@@ -1,0 +1,9 @@
+pub mod Fresh
+pub mod Seen
+pub mod AtHand
+pub mod NextAsk
+pub mod Lending
+pub mod Making
+pub mod Permit
+pub mod Chosen
+pub mod Told

@@ -1,0 +1,78 @@
+//! The asks that are out.
+
+ghost use Rattle.std.specs.Prelude.{◌≡◌, ◌<◌, ◌++◌, ◌∷◌, [], length, IfOk};
+ghost use Rattle.std.specs.List.{list_any};
+ghost use Rattle.half_machine.specs.Marks.{is_of_headers, is_of_body};
+
+use std::alloc::{AllocError, Global};
+use std::marker::Model;
+
+/// An ask that is out. The bytes of one of the body are lent by the hold; its flag is `end_of_stream`.
+#[derive(Clone, Copy)]
+pub enum Mark {
+    Headers,
+    Body(bool),
+    Trailers,
+}
+
+/// The asks that are out, oldest first: never more than four. Only the constructor takes memory.
+#[derive(Drop)]
+pub struct Marks {
+    items: Vec<Mark>,
+}
+
+impl Model for Marks {
+    ghost use Rattle.std.specs.Prelude.{List};
+    ghost use Rattle.half_machine.specs.declared.marks.Mark.{Mark};
+    ghost use Rattle.half_machine.specs.Marks.{IsReserved};
+
+    ghost Value = { List Mark };
+
+    ghost view = { λ m. m.items.items };
+
+    ghost invariant = { λ m. IsReserved m.items };
+}
+
+impl Marks {
+    pub fn new(alloc: Global) -> Result<Marks, AllocError>
+        ensures { IfOk result (λ m. m ≡ []) }
+    {
+        let items = Vec::with_capacity(alloc, 4)?;
+        Ok(Marks { items })
+    }
+
+    /// How many asks are out.
+    pub fn len(&self) -> u32
+        ensures { result ≡ length self.now }
+    {
+        self.items.len() as u32
+    }
+
+    /// One more is out.
+    pub fn push(&mut self, mark: Mark)
+        requires { length self.old < 4 }
+        ensures { self.new ≡ self.old ++ mark ∷ [] }
+    {
+        self.items.push_reserved(mark);
+    }
+
+    /// Whether one of the headers is out.
+    pub fn has_headers(&self) -> bool
+        ensures { result ≡ list_any is_of_headers self.now }
+    {
+        self.items.iter().any(|mark| match mark {
+            Mark::Headers => true,
+            Mark::Body(_) | Mark::Trailers => false,
+        })
+    }
+
+    /// Whether one of the body is out.
+    pub fn has_body(&self) -> bool
+        ensures { result ≡ list_any is_of_body self.now }
+    {
+        self.items.iter().any(|mark| match mark {
+            Mark::Body(_) => true,
+            Mark::Headers | Mark::Trailers => false,
+        })
+    }
+}
