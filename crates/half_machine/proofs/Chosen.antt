@@ -150,6 +150,7 @@ chosen c d p x h m t n e f = record {
   head = t.head;
   fields = λ o z. t.head ∙ ap (option_map (changed_head c d p.course)) e ∙ ap (option_map (λ (o : Outgoing). o.fields)) (sym f ∙ z);
   trailers = t.trailers;
+  few = t.few;
   sound = commit_sound c d p.course t.sound;
 }
 

@@ -7,3 +7,4 @@ pub mod Making
 pub mod Permit
 pub mod Chosen
 pub mod Told
+pub mod Coming

@@ -267,8 +267,13 @@ assemble c d p x a q t m k u h e =
       head = t.head ∙ sym (head_stays c d w q n w.original.head);
       fields = t.fields;
       trailers = t.trailers ∙ ap (under c TrailerPart w.original.trailers) (sym (answer_stays is_trailers w q n));
+      few = fewer (lent_by a) t.few;
       sound = ask_sound c w q t.sound e;
     }
+  where
+    fewer : (o : Option ℕ) {m : ℕ} → x.counts.unasked ≤ m → (counted_for o x.counts).unasked ≤ m
+    fewer None e = e
+    fewer (Some n) e = omega arith
 
 -- a half after the ask that was due
 pub made_ties : (c : CourseConfig) (d : Direction) (p : Progress) (x : Half) (a : Due) → MadeWith c d x → Ties c d p x → due_of x ≡ Some a

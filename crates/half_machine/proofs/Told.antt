@@ -53,6 +53,7 @@ sent_holds p x s m =
         head = t.head;
         fields = t.fields;
         trailers = t.trailers;
+        few = t.few;
         sound = aside_sound p.config w (suc w.sent) w.given t.sound;
       },
     )
@@ -91,6 +92,7 @@ given_holds p x n s m =
         head = t.head;
         fields = t.fields;
         trailers = t.trailers;
+        few = let k = t.few in omega arith;
         sound = aside_sound p.config w w.sent (w.given + n) t.sound;
       },
     )

@@ -1,7 +1,10 @@
 -- When a half may be called so.
-use Rattle.std.specs.Prelude.{ℕ, ◌+◌, ◌≡◌, ◌≤◌, ◌<◌, true, false, List, length, is_some}
+use Rattle.std.specs.Prelude.{ℕ, ◌+◌, ◌≡◌, ◌≤◌, ◌<◌, min, true, false, List, length, is_some, if◌then◌else◌}
+use Rattle.body_hold.specs.Held.{Held, hand_room}
+use Rattle.body_hold.specs.Steps.{put}
 use Rattle.http_model.specs.Heads.{is_bodiless}
 use Rattle.filter_model.specs.Course.{body_room}
+use Rattle.half_machine.specs.declared.half.Half.{Half}
 use Rattle.filter_model.specs.Half.{Past, course, progress}
 
 -- an ask was handed out and not sent
@@ -18,3 +21,27 @@ pub record MayBytes (p : Past) (bytes : List ℕ) : Type 0 where
   pub has_body : is_bodiless (course p).original.length ≡ false
   pub unfinished : (course p).original.whole ≡ false
   pub fits : length bytes ≤ body_room p.config p.direction (course p)
+
+-- What body bytes make of it
+
+abbrev pub bytes_more : List ℕ → Half → ℕ
+bytes_more b x = min (x.arrived.bytes + length b) 4_294_967_295
+
+abbrev pub unasked_more : List ℕ → Half → ℕ
+unasked_more b x = if x.rule.replaced then x.counts.unasked else x.counts.unasked + length b
+
+abbrev pub hold_more : List ℕ → Half → Held
+hold_more b x = if x.rule.replaced then x.hold else put b x.hold
+
+abbrev pub with_bytes : List ℕ → Half → Half
+with_bytes b x = record x {
+  arrived = record x.arrived { bytes = bytes_more b x };
+  counts = record x.counts { unasked = unasked_more b x };
+  hold = hold_more b x;
+}
+
+-- the bytes fit
+pub record CanTake (x : Half) (b : List ℕ) : Type 0 where
+  pub short : length b ≤ 16_384
+  pub fits : length x.hold.hand + length b ≤ hand_room x.hold.limit
+  pub count : x.counts.unasked + length b ≤ 4_294_967_295

@@ -37,6 +37,7 @@ pub record OfOriginal (x : Arrived) (o : Original) : Type 0 where
   pub whole : x.whole ≡ o.whole
   pub trailers : x.trailers ≡ not (is_empty o.trailers)
   pub bytes : x.bytes ≡ min (length o.body) 4_294_967_295
+  pub bare : o.whole ≡ false → o.trailers ≡ []
 
 pub record OfAnswers (x : Ruled) (d : Direction) (w : Course) : Type 0 where
   pub modes : x.modes ≡ w.modes
@@ -108,6 +109,7 @@ pub record Ties (c : CourseConfig) (d : Direction) (p : Progress) (x : Half) : T
   pub head : x.head ≡ option_map (changed_head c d p.course) p.course.original.head
   pub fields : (o : Outgoing) → p.course.head ≡ Some o → x.head ≡ Some o.fields
   pub trailers : x.trailers ≡ under c TrailerPart p.course.original.trailers (answer_to is_trailers p.course)
+  pub few : x.counts.unasked ≤ (if p.course.released then c.buffer_limit * 2 + 131_072 else c.buffer_limit + 65_536)
   pub sound : Sound c p.course
 
 -- the sizes of the product, and what the half was made with

@@ -1,10 +1,12 @@
 //! What a half is told.
 
-ghost use Rattle.filter_model.specs.Half.{Past, after_step, Told, Sent as OneSent, Given as SoManyGiven};
+ghost use Rattle.std.specs.Prelude.{◌≡◌};
+ghost use Rattle.filter_model.specs.Half.{Past, after_step, Told, Sent as OneSent, Given as SoManyGiven, Bytes as BytesCame, End as EndCame};
 ghost use Rattle.half_machine.specs.Stands.{StandsFor, Stands};
-ghost use Rattle.half_machine.specs.Calls.{MaySent, MayGiven};
+ghost use Rattle.half_machine.specs.Calls.{MaySent, MayGiven, MayBytes, CanTake, with_bytes};
 
 use crate::half::Half;
+use ext_msgs::FieldList;
 
 impl Half {
     /// That the oldest ask not yet sent was sent.
@@ -26,5 +28,41 @@ impl Half {
         self.counts.pieces = self.counts.pieces.saturating_sub(n);
         self.counts.waiting -= n;
         self.go_on();
+    }
+
+    /// Bytes of its body: at most `room`, behind a head that doesn't say that there is no body, and before the end.
+    pub fn data(&mut self, bytes: &[u8])
+        requires { Stands self.old (λ p. MayBytes p bytes.now) }
+        ensures { (p : Past) → StandsFor p self.old → MayBytes p bytes.now →
+            StandsFor (after_step (Told (BytesCame bytes.now)) p) self.new }
+    {
+        self.take(bytes);
+        self.go_on();
+    }
+
+    /// The last bytes of its body, none or at most `room`, and its trailers.
+    pub fn end(&mut self, bytes: &[u8], trailers: FieldList)
+        requires { Stands self.old (λ p. MayBytes p bytes.now) }
+        ensures { (p : Past) → StandsFor p self.old → MayBytes p bytes.now →
+            StandsFor (after_step (Told (EndCame bytes.now trailers)) p) self.new }
+    {
+        self.take(bytes);
+        self.arrived.whole = true;
+        self.arrived.trailers = !trailers.is_empty();
+        self.trailers = trailers;
+        self.go_on();
+    }
+
+    // Bytes that come where another body took the place of theirs are dropped.
+    fn take(&mut self, bytes: &[u8])
+        requires { CanTake self.old bytes.now }
+        ensures { self.new ≡ with_bytes bytes.now self.old }
+    {
+        let n = bytes.len() as u32;
+        self.arrived.bytes = self.arrived.bytes.saturating_add(n);
+        if !self.rule.replaced {
+            self.hold.put(bytes);
+            self.counts.unasked += n;
+        }
     }
 }
