@@ -281,8 +281,11 @@ data_holds p x y b s m e =
     let o = s.ties.arrived in
     subst (λ z. Holds p.config p.direction (record (progress p) { course = called (Bytes b) (course p) }) z) (sym e)
     (read_holds p x b (course p).original.trailers (course p).original.whole (record x.arrived { bytes = bytes_more b x }) x.trailers s m
-    (record { head = o.head; framed = o.framed; own = o.own; whole = o.whole; trailers = o.trailers; bytes = count_read x b (course p).original.body o.bytes; bare = o.bare })
+    (record { head = o.head; framed = o.framed; own = o.own; whole = o.whole; trailers = o.trailers; bytes = count_read x b (course p).original.body o.bytes; bare = o.bare; unread = λ z. absurd (clash (sym (ap is_some z) ∙ m.read)) })
     s.ties.trailers)
+  where
+    clash : false ≡ true → ⊥
+    clash e = cc
 
 none_asked : (p : Past) (x : Half) → StandsFor p x → (course p).original.whole ≡ false → answer_to is_trailers (course p) ≡ None
 none_asked p x s u = ap (option_map (λ (q : AskedPart × Common). q.1)) (none_of_kind is_trailers (course p).asks (course p).answers (by (list_any is_trailers (course p).asks) refl))
@@ -300,7 +303,7 @@ end_holds p x y b ts q s m e f =
     let o = s.ties.arrived in
     subst (λ z. Holds p.config p.direction (record (progress p) { course = called (End b ts) (course p) }) (record z { arrived = record z.arrived { whole = true; trailers = q }; trailers = ts })) (sym e)
     (read_holds p x b ts true (record x.arrived { bytes = bytes_more b x; whole = true; trailers = q }) ts s m
-    (record { head = o.head; framed = o.framed; own = o.own; whole = refl; trailers = f; bytes = count_read x b (course p).original.body o.bytes; bare = λ z. absurd (clash z) })
+    (record { head = o.head; framed = o.framed; own = o.own; whole = refl; trailers = f; bytes = count_read x b (course p).original.body o.bytes; bare = λ z. absurd (clash z); unread = λ z. absurd (clash (sym m.read ∙ ap is_some z)) })
     (ap (under p.config TrailerPart ts) (sym (none_asked p x s m.unfinished))))
   where
     clash : true ≡ false → ⊥

@@ -8,3 +8,5 @@ pub mod Permit
 pub mod Chosen
 pub mod Told
 pub mod Coming
+pub mod Owned
+pub mod Heading

@@ -1,11 +1,15 @@
 -- When a half may be called so.
-use Rattle.std.specs.Prelude.{ℕ, ◌+◌, ◌≡◌, ◌≤◌, ◌<◌, min, true, false, List, length, is_some, if◌then◌else◌}
+use Rattle.std.specs.Prelude.{ℕ, ◌+◌, ◌≡◌, ◌≤◌, ◌<◌, min, true, false, List, length, None, is_some, if◌then◌else◌}
 use Rattle.body_hold.specs.Held.{Held, hand_room}
 use Rattle.body_hold.specs.Steps.{put}
 use Rattle.http_model.specs.Heads.{is_bodiless}
 use Rattle.filter_model.specs.Course.{body_room}
 use Rattle.half_machine.specs.declared.half.Half.{Half}
 use Rattle.filter_model.specs.Half.{Past, course, progress}
+
+-- no head came
+pub record MayHead (p : Past) : Type 0 where
+  pub once : (course p).original.head ≡ None
 
 -- an ask was handed out and not sent
 pub record MaySent (p : Past) : Type 0 where

@@ -38,6 +38,7 @@ pub record OfOriginal (x : Arrived) (o : Original) : Type 0 where
   pub trailers : x.trailers ≡ not (is_empty o.trailers)
   pub bytes : x.bytes ≡ min (length o.body) 4_294_967_295
   pub bare : o.whole ≡ false → o.trailers ≡ []
+  pub unread : o.head ≡ None → (o.whole ≡ false) × (o.body ≡ [])
 
 pub record OfAnswers (x : Ruled) (d : Direction) (w : Course) : Type 0 where
   pub modes : x.modes ≡ w.modes

@@ -1,14 +1,30 @@
 //! What a half is told.
 
 ghost use Rattle.std.specs.Prelude.{◌≡◌};
-ghost use Rattle.filter_model.specs.Half.{Past, after_step, Told, Sent as OneSent, Given as SoManyGiven, Bytes as BytesCame, End as EndCame};
+ghost use Rattle.filter_model.specs.Half.{Past, after_step, Told, Head as HeadCame, Sent as OneSent, Given as SoManyGiven, Bytes as BytesCame, End as EndCame};
 ghost use Rattle.half_machine.specs.Stands.{StandsFor, Stands};
-ghost use Rattle.half_machine.specs.Calls.{MaySent, MayGiven, MayBytes, CanTake, with_bytes};
+ghost use Rattle.half_machine.specs.Calls.{MayHead, MaySent, MayGiven, MayBytes, CanTake, with_bytes};
 
+use crate::facts::is_bodiless;
 use crate::half::Half;
+use crate::own::own_framing;
 use ext_msgs::FieldList;
+use http_model::Length;
 
 impl Half {
+    /// Its head, and how that says that its body ends. It comes once.
+    pub fn head(&mut self, head: FieldList, length: Length)
+        requires { Stands self.old MayHead }
+        ensures { (p : Past) → StandsFor p self.old → MayHead p → StandsFor (after_step (Told (HeadCame head length)) p) self.new }
+    {
+        self.arrived.head = true;
+        self.arrived.framed = length;
+        self.arrived.own = own_framing(&head);
+        self.arrived.whole = is_bodiless(length);
+        self.head = Some(head);
+        self.go_on();
+    }
+
     /// That the oldest ask not yet sent was sent.
     pub fn sent(&mut self)
         requires { Stands self.old MaySent }

@@ -21,7 +21,7 @@ returns c config f =
         hold = ap (λ (h : Held). h.limit) c.in_ok-hold.ensures;
       };
       ties = record {
-        arrived = record { head = refl; framed = refl; own = λ h e. absurd cc; whole = refl; trailers = refl; bytes = refl; bare = λ e. refl };
+        arrived = record { head = refl; framed = refl; own = λ h e. absurd cc; whole = refl; trailers = refl; bytes = refl; bare = λ e. refl; unread = λ e. (refl, refl) };
         rule = record { modes = refl; released = refl; stopped = refl; passes = refl; replaced = sym (fresh_kept d modes); headers = refl; body = refl };
         asked = record { any = refl; body = refl; last = refl; trailers = refl; unsent = refl; unhanded = refl; order = omega arith };
         counts = record { unasked = sym (fresh_unasked d modes); pieces = refl; waiting = refl };
