@@ -115,6 +115,7 @@ hold_aside h c d w handed o n g s = record {
   pieces_first = s.pieces_first;
   within = s.within;
   there = let e : length (flow c d (record w { head = o; sent = n; given = g })) ≡ length (flow c d w) = ap length (flow_aside c d w o n g) in let t = s.there in omega arith;
+  idle = s.idle;
   hand_fits = s.hand_fits;
   lent_fits = s.lent_fits;
 }

@@ -33,7 +33,7 @@ read_on b trailers whole w = record w { original = record w.original { body = w.
 
 -- Answered bytes were asked
 
-answered_were_asked : (asks : List AskedPart) (answers : List Common) → sum_by (λ (q : AskedPart × Common). length (bytes_in q.0)) (zip asks answers) ≤ sum_by (λ p. length (bytes_in p)) asks
+pub answered_were_asked : (asks : List AskedPart) (answers : List Common) → sum_by (λ (q : AskedPart × Common). length (bytes_in q.0)) (zip asks answers) ≤ sum_by (λ p. length (bytes_in p)) asks
 answered_were_asked [] answers = omega arith
 answered_were_asked (p ∷ asks) [] = omega arith
 answered_were_asked (p ∷ asks) (a ∷ answers) =
@@ -172,6 +172,7 @@ hold_kept c d w handed h b ts e i f s =
       pieces_first = s.pieces_first;
       within = λ z. omega arith;
       there = omega arith;
+      idle = s.idle;
       hand_fits = let a : length (h.hand ++ b) ≡ length h.hand + length b = length-append h.hand b in omega arith;
       lent_fits = s.lent_fits;
     }
@@ -188,6 +189,7 @@ hold_replaced c d w handed h b ts e i s =
       pieces_first = s.pieces_first;
       within = λ z. absurd (clash (sym i ∙ z));
       there = let n : length (flow c d (read_on b ts e w)) ≡ length (flow c d w) = ap length same in let t = s.there in omega arith;
+      idle = s.idle;
       hand_fits = s.hand_fits;
       lent_fits = s.lent_fits;
     }

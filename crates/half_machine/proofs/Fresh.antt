@@ -51,6 +51,7 @@ fresh_empty c d modes limit answer = record {
   pieces_first = λ e. omega arith;
   within = λ e. omega arith;
   there = omega arith;
+  idle = λ a e. refl;
   hand_fits = omega arith;
   lent_fits = λ e. omega arith;
 }

@@ -54,6 +54,7 @@ hold_headed c d w handed h f n e g s =
       pieces_first = λ z. s.pieces_first e;
       within = λ z. s.within e;
       there = let k : length (flow c d (headed f n w)) ≡ length (flow c d w) = ap length same in let t = s.there in omega arith;
+      idle = λ a z. s.idle a e;
       hand_fits = s.hand_fits;
       lent_fits = s.lent_fits;
     }

@@ -102,7 +102,7 @@ few_bodies (p ∷ asks) = by (is_body p) (few_bodies asks)
     by true e = omega arith
     by false e = omega arith
 
-no_bodies : (asks : List AskedPart) → list_any is_body asks ≡ false → filter is_body asks ≡ []
+pub no_bodies : (asks : List AskedPart) → list_any is_body asks ≡ false → filter is_body asks ≡ []
 no_bodies [] e = refl
 no_bodies (p ∷ asks) e = by (is_body p) e (no_bodies asks)
   where
@@ -110,7 +110,7 @@ no_bodies (p ∷ asks) e = by (is_body p) e (no_bodies asks)
     by true e f = absurd cc
     by false e f = f e
 
-none_out : (w : Course) → list_any is_body w.asks ≡ false → list_any is_body (out w) ≡ false
+pub none_out : (w : Course) → list_any is_body w.asks ≡ false → list_any is_body (out w) ≡ false
 none_out w e = by (list_any is_body (out w)) refl
   where
     by : (b : Bool) → list_any is_body (out w) ≡ b → list_any is_body (out w) ≡ false

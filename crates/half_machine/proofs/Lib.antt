@@ -10,3 +10,4 @@ pub mod Told
 pub mod Coming
 pub mod Owned
 pub mod Heading
+pub mod Settling

@@ -19,7 +19,7 @@ use Rattle.body_hold.specs.Steps.{lend}
 use Rattle.filter_model.specs.Config.{CourseConfig}
 use Rattle.filter_model.specs.Course.{Course, AskedPart, Headers, Body, Trailers, changed_at, changed_head, body_of, head_kind, under, is_buffered, is_body, is_headers, is_trailers, is_last_piece, is_stopped, is_passing, passing_at, mode, bytes_in, out, pairs, asked_bytes, answered_bytes, answered_pieces, answered_piece, answer_to, replaces, replacement, replacement_at, is_bare, unasked, next, next_body}
 use Rattle.filter_model.specs.Half.{Progress}
-use Rattle.filter_model.proofs.CourseGrows.{with_ask, zip_longer, drop_longer, passing_same, not_passing}
+use Rattle.filter_model.proofs.CourseGrows.{any_same, with_ask, zip_longer, drop_longer, passing_same, not_passing}
 use Rattle.filter_model.proofs.Sounds.{ask_sound}
 use Rattle.half_machine.specs.Marks.{mark_of}
 use Rattle.half_machine.specs.Due.{mark_for, made_with, lent_by, part_of}
@@ -209,6 +209,7 @@ hold_stays c d w handed q h n r e f z s =
       pieces_first = λ u. let a = s.pieces_first (sym some ∙ u) in let b : piece_bytes (with_ask q w) ≡ piece_bytes w = piece_bytes_stay w q n in omega arith;
       within = λ u. let a = s.within (sym some ∙ u) in omega arith;
       there = let a = s.there in let b : length (flow c d (with_ask q w)) ≡ length (flow c d w) = ap length kept in omega arith;
+      idle = λ a u. s.idle (sym (any_same is_body w.asks q e) ∙ a) (sym some ∙ u);
       hand_fits = s.hand_fits;
       lent_fits = s.lent_fits;
     }
@@ -238,6 +239,7 @@ hold_lent c d w handed n last h m r u l k e s =
       pieces_first = λ v. let a = s.pieces_first u in let b : piece_bytes (with_ask q w) ≡ piece_bytes w = piece_bytes_stay w q m in omega arith;
       within = λ v. let a = s.within u in omega arith;
       there = let a = s.there in let b : length (flow c d (with_ask q w)) ≡ length (flow c d w) = ap length kept in omega arith;
+      idle = λ a v. absurd (clash (or_true (list_any is_body w.asks) ∙ sym (list_any-append is_body w.asks (q ∷ [])) ∙ a));
       hand_fits = let a = s.hand_fits in let b : length (drop n h.hand) ≡ length h.hand - n = length-drop n h.hand in omega arith;
       lent_fits = λ v.
           let a : length (joined h.lent) ≤ 16_384 * length h.lent = s.lent_fits v in
@@ -246,6 +248,9 @@ hold_lent c d w handed n last h m r u l k e s =
           let i : length (h.lent ++ take n h.hand ∷ []) ≡ length h.lent + 1 = length-append h.lent (take n h.hand ∷ []) in
           omega arith;
     }
+  where
+    clash : true ≡ false → ⊥
+    clash e = cc
 
 -- All of a half
 

@@ -1,15 +1,27 @@
 -- When a half may be called so.
-use Rattle.std.specs.Prelude.{ℕ, ◌+◌, ◌≡◌, ◌≤◌, ◌<◌, min, true, false, List, length, None, is_some, if◌then◌else◌}
+use Rattle.std.specs.Prelude.{ℕ, ◌+◌, ◌≡◌, ◌⊎◌, Bool, ◌≤◌, ◌<◌, min, true, false, List, length, None, is_some, if◌then◌else◌}
+use Rattle.std.specs.List.{list_any}
 use Rattle.body_hold.specs.Held.{Held, hand_room}
 use Rattle.body_hold.specs.Steps.{put}
+use Rattle.ext_msgs.specs.declared.modes.PartModes.{PartModes}
 use Rattle.http_model.specs.Heads.{is_bodiless}
-use Rattle.filter_model.specs.Course.{body_room}
+use Rattle.filter_model.specs.Answers.{behind_headers}
+use Rattle.filter_model.specs.Course.{body_room, out, is_headers}
 use Rattle.half_machine.specs.declared.half.Half.{Half}
 use Rattle.filter_model.specs.Half.{Past, course, progress}
 
 -- no head came
 pub record MayHead (p : Past) : Type 0 where
   pub once : (course p).original.head ≡ None
+
+-- no head came, or its ask is out
+pub record MaySettle (p : Past) : Type 0 where
+  pub early : ((course p).original.head ≡ None) ⊎ (list_any is_headers (out (course p)) ≡ true)
+
+-- behind a head the header mode stays
+abbrev pub settled_in : Bool → PartModes → PartModes → PartModes
+settled_in true old new = behind_headers old new
+settled_in false old new = new
 
 -- an ask was handed out and not sent
 pub record MaySent (p : Past) : Type 0 where

@@ -89,6 +89,7 @@ pub record OfHold (x : Held) (c : CourseConfig) (d : Direction) (w : Course) (ha
   pub pieces_first : is_some (replacement d w) ≡ false → piece_bytes w ≤ handed + length x.out
   pub within : is_some (replacement d w) ≡ false → left_hand w (handed + length x.out) ≤ length w.original.body
   pub there : handed ≤ length (flow c d w)
+  pub idle : list_any is_body w.asks ≡ false → is_some (replacement d w) ≡ false → x.out ≡ []
   pub hand_fits : length x.hand ≤ c.buffer_limit + 65_536
   pub lent_fits : is_streamed w.modes.body ≡ true → length (joined x.lent) ≤ 16_384 * length x.lent
 

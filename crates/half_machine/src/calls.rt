@@ -1,17 +1,40 @@
 //! What a half is told.
 
 ghost use Rattle.std.specs.Prelude.{◌≡◌};
-ghost use Rattle.filter_model.specs.Half.{Past, after_step, Told, Head as HeadCame, Sent as OneSent, Given as SoManyGiven, Bytes as BytesCame, End as EndCame};
+ghost use Rattle.filter_model.specs.Half.{Past, after_step, Told, Settle, Head as HeadCame, Sent as OneSent, Given as SoManyGiven, Bytes as BytesCame, End as EndCame};
 ghost use Rattle.half_machine.specs.Stands.{StandsFor, Stands};
-ghost use Rattle.half_machine.specs.Calls.{MayHead, MaySent, MayGiven, MayBytes, CanTake, with_bytes};
+ghost use Rattle.half_machine.specs.Calls.{MayHead, MaySettle, settled_in, MaySent, MayGiven, MayBytes, CanTake, with_bytes};
 
 use crate::facts::is_bodiless;
 use crate::half::Half;
 use crate::own::own_framing;
-use ext_msgs::FieldList;
+use ext_msgs::{FieldList, PartModes};
 use http_model::Length;
 
+// Behind a head the header mode stays.
+fn settled(behind_head: bool, old: PartModes, new: PartModes) -> PartModes
+    ensures { result ≡ settled_in behind_head old new }
+{
+    if !behind_head {
+        return new;
+    }
+    PartModes {
+        headers: old.headers,
+        body: new.body,
+        trailers: new.trailers,
+    }
+}
+
 impl Half {
+    /// Other modes: before the head, or, without effect on that of the headers, while their ask is out.
+    pub fn settle(&mut self, modes: PartModes)
+        requires { Stands self.old MaySettle }
+        ensures { (p : Past) → StandsFor p self.old → MaySettle p → StandsFor (after_step (Told (Settle modes)) p) self.new }
+    {
+        self.rule.modes = settled(self.arrived.head, self.rule.modes, modes);
+        self.go_on();
+    }
+
     /// Its head, and how that says that its body ends. It comes once.
     pub fn head(&mut self, head: FieldList, length: Length)
         requires { Stands self.old MayHead }
