@@ -137,7 +137,7 @@ unfolding committed
 chosen c d p x h m t n e f = record {
   arrived = t.arrived;
   rule = rule_aside x.rule d p.course (committed c d p.course).head p.course.sent p.course.given t.rule;
-  asked = record { any = t.asked.any; body = t.asked.body; last = t.asked.last; trailers = t.asked.trailers; unsent = t.asked.unsent; unhanded = t.asked.unhanded; order = t.asked.order };
+  asked = record { any = t.asked.any; body = t.asked.body; last = t.asked.last; trailers = t.asked.trailers; unsent = t.asked.unsent; unhanded = t.asked.unhanded; order = t.asked.order; answered = t.asked.answered };
   counts = record { unasked = t.counts.unasked; pieces = t.counts.pieces; waiting = t.counts.waiting };
   gone = record {
     framing = ap Some (framing_is c d p x h m t n e) ∙ ap (option_map (λ (o : Outgoing). o.framing)) (sym f);
@@ -151,6 +151,7 @@ chosen c d p x h m t n e f = record {
   head = t.head;
   fields = λ o z. t.head ∙ ap (option_map (changed_head c d p.course)) e ∙ ap (option_map (λ (o : Outgoing). o.fields)) (sym f ∙ z);
   trailers = t.trailers;
+  parts = t.parts;
   few = t.few;
   sound = commit_sound c d p.course t.sound;
 }

@@ -9,16 +9,17 @@ use Rattle.ext_msgs.specs.declared.answer.Common.{Common}
 use Rattle.header_mutation.specs.declared.rules.PartKind.TheVariants.{Trailers as TrailerPart}
 use Rattle.http_model.specs.Bytes.{is_empty}
 use Rattle.http_model.specs.declared.types.Direction.{Direction}
+use Rattle.http_model.specs.declared.types.Length.{Length}
 use Rattle.http_model.specs.declared.types.Framing.TheVariants.{NoField}
 use Rattle.body_hold.specs.Held.{Held}
 use Rattle.body_hold.specs.Steps.{put}
 use Rattle.filter_model.specs.Config.{CourseConfig}
-use Rattle.filter_model.specs.Course.{Course, AskedPart, changed_at, body_of, bytes_in, is_trailers, is_passing, pairs, asked_bytes, answered_bytes, answered_pieces, answer_to, replacement, unasked, under}
+use Rattle.filter_model.specs.Course.{Course, AskedPart, changed_at, body_of, bytes_in, is_trailers, is_passing, pairs, asked_bytes, answered_bytes, answered_pieces, answer_to, replacement, unasked, under, Headers, Body, Trailers, out}
 use Rattle.filter_model.specs.Half.{Past, Progress, Bytes, End, called, progress, course}
-use Rattle.filter_model.proofs.CourseGrows.{none_of_kind}
+use Rattle.filter_model.proofs.CourseGrows.{none_of_kind, any_of_drop}
 use Rattle.filter_model.proofs.Sounds.{read_sound}
 use Rattle.half_machine.specs.Facts.{collects_in}
-use Rattle.half_machine.specs.Stands.{OfOriginal, OfHold, MadeWith, Ties, StandsFor, piece_bytes, left_hand, flow}
+use Rattle.half_machine.specs.Stands.{AreKept, OfOriginal, OfHold, MadeWith, Ties, StandsFor, piece_bytes, left_hand, flow}
 use Rattle.half_machine.specs.Calls.{MayBytes, CanTake, bytes_more, unasked_more, hold_more, with_bytes}
 use Rattle.half_machine.specs.Choosing.{Holds}
 use Rattle.half_machine.specs.declared.facts.Arrived.{Arrived}
@@ -226,7 +227,7 @@ few_read c x b false true (inr e) f = omega arith
 few_read c x b false false (inr e) f = e
 
 -- All of a half
-pub read_holds : (p : Past) (x : Half) (b : List ℕ) (ts : List Field) (e : Bool) (a : Arrived) (f : List Field) → StandsFor p x → MayBytes p b
+pub read_holds : (p : Past) (x : Half) (b : List ℕ) (ts : List Field) (e : Bool) (a : Arrived) (f : List Field) → StandsFor p x → MayBytes p b → a.framed ≡ x.arrived.framed → AreKept x.head x.arrived.framed f (out (course p))
     → OfOriginal a (record (course p).original { body = (course p).original.body ++ b; trailers = ts; whole = e })
     → f ≡ under p.config TrailerPart ts (answer_to is_trailers (course p))
     → Holds p.config p.direction (record (progress p) { course = read_on b ts e (course p) }) (record x {
@@ -235,7 +236,7 @@ pub read_holds : (p : Past) (x : Half) (b : List ℕ) (ts : List Field) (e : Boo
       hold = hold_more b x;
       trailers = f;
     })
-read_holds p x b ts e a f s m o g =
+read_holds p x b ts e a f s m n k o g =
     let w : Course = course p in
     let c : CourseConfig = p.config in
     let d : Direction = p.direction in
@@ -246,7 +247,7 @@ read_holds p x b ts e a f s m o g =
       record {
         arrived = o;
         rule = record { modes = t.rule.modes; released = t.rule.released; stopped = t.rule.stopped; passes = t.rule.passes; replaced = t.rule.replaced; headers = t.rule.headers; body = t.rule.body };
-        asked = record { any = t.asked.any; body = t.asked.body; last = t.asked.last; trailers = t.asked.trailers; unsent = t.asked.unsent; unhanded = t.asked.unhanded; order = t.asked.order };
+        asked = record { any = t.asked.any; body = t.asked.body; last = t.asked.last; trailers = t.asked.trailers; unsent = t.asked.unsent; unhanded = t.asked.unhanded; order = t.asked.order; answered = t.asked.answered };
         counts = record { unasked = unasked_read c d (progress p) x b ts e x.rule.replaced same t; pieces = t.counts.pieces; waiting = t.counts.waiting };
         gone = record { framing = t.gone.framing; head = t.gone.head; trailers = t.gone.trailers; ended = t.gone.ended; early = t.gone.early };
         hold = hold_read c d (progress p) x b ts e x.rule.replaced same r.hand t;
@@ -254,6 +255,7 @@ read_holds p x b ts e a f s m o g =
         head = t.head;
         fields = t.fields;
         trailers = g;
+        parts = subst (λ z. AreKept x.head z f (out w)) (sym n) k;
         few = few_read c x b x.rule.replaced w.released r.unasked t.few;
         sound = read_sound c w (record w.original { body = w.original.body ++ b; trailers = ts; whole = e }) t.sound
             (inr (inr (record { unfinished = m.unfinished; trailers = t.arrived.bare m.unfinished; head = refl; length = refl; expects = refl; body = record { rest = b; whole = refl } })))
@@ -282,15 +284,15 @@ pub data_holds : (p : Past) (x y : Half) (b : List ℕ) → StandsFor p x → Ma
 data_holds p x y b s m e =
     let o = s.ties.arrived in
     subst (λ z. Holds p.config p.direction (record (progress p) { course = called (Bytes b) (course p) }) z) (sym e)
-    (read_holds p x b (course p).original.trailers (course p).original.whole (record x.arrived { bytes = bytes_more b x }) x.trailers s m
+    (read_holds p x b (course p).original.trailers (course p).original.whole (record x.arrived { bytes = bytes_more b x }) x.trailers s m refl s.ties.parts
     (record { head = o.head; framed = o.framed; own = o.own; whole = o.whole; trailers = o.trailers; bytes = count_read x b (course p).original.body o.bytes; bare = o.bare; unread = λ z. absurd (clash (sym (ap is_some z) ∙ m.read)) })
     s.ties.trailers)
   where
     clash : false ≡ true → ⊥
     clash e = cc
 
-none_asked : (p : Past) (x : Half) → StandsFor p x → (course p).original.whole ≡ false → answer_to is_trailers (course p) ≡ None
-none_asked p x s u = ap (option_map (λ (q : AskedPart × Common). q.1)) (none_of_kind is_trailers (course p).asks (course p).answers (by (list_any is_trailers (course p).asks) refl))
+no_trailers : (p : Past) (x : Half) → StandsFor p x → (course p).original.whole ≡ false → list_any is_trailers (course p).asks ≡ false
+no_trailers p x s u = by (list_any is_trailers (course p).asks) refl
   where
     clash : true ≡ false → ⊥
     clash e = cc
@@ -299,12 +301,35 @@ none_asked p x s u = ap (option_map (λ (q : AskedPart × Common). q.1)) (none_o
     by true e = absurd (clash (sym (ap is_empty (s.ties.arrived.bare u)) ∙ s.ties.sound.trailers e))
     by false e = e
 
+none_asked : (p : Past) (x : Half) → StandsFor p x → (course p).original.whole ≡ false → answer_to is_trailers (course p) ≡ None
+none_asked p x s u = ap (option_map (λ (q : AskedPart × Common). q.1)) (none_of_kind is_trailers (course p).asks (course p).answers (no_trailers p x s u))
+
+none_out : (p : Past) (x : Half) → StandsFor p x → (course p).original.whole ≡ false → list_any is_trailers (out (course p)) ≡ false
+none_out p x s u = by (list_any is_trailers (out (course p))) refl
+  where
+    clash : true ≡ false → ⊥
+    clash e = cc
+
+    by : (b : Bool) → list_any is_trailers (out (course p)) ≡ b → list_any is_trailers (out (course p)) ≡ false
+    by true e = absurd (clash (sym (any_of_drop is_trailers (course p).asks (course p).answers e) ∙ no_trailers p x s u))
+    by false e = e
+
+other_trailers : (head : Option (List Field)) (n : Length) (old new : List Field) (asks : List AskedPart) → list_any is_trailers asks ≡ false → AreKept head n old asks → AreKept head n new asks
+other_trailers head n old new [] e k = tt
+other_trailers head n old new (Headers f l ∷ asks) e k = (k.0, other_trailers head n old new asks e k.1)
+other_trailers head n old new (Body b l ∷ asks) e k = (tt, other_trailers head n old new asks e k.1)
+other_trailers head n old new (Trailers f ∷ asks) e k = absurd (clash e)
+  where
+    clash : true ≡ false → ⊥
+    clash e = cc
+
 pub end_holds : (p : Past) (x y : Half) (b : List ℕ) (ts : List Field) (q : Bool) → StandsFor p x → MayBytes p b → y ≡ with_bytes b x → q ≡ not (is_empty ts)
     → Holds p.config p.direction (record (progress p) { course = called (End b ts) (course p) }) (record y { arrived = record y.arrived { whole = true; trailers = q }; trailers = ts })
 end_holds p x y b ts q s m e f =
     let o = s.ties.arrived in
     subst (λ z. Holds p.config p.direction (record (progress p) { course = called (End b ts) (course p) }) (record z { arrived = record z.arrived { whole = true; trailers = q }; trailers = ts })) (sym e)
-    (read_holds p x b ts true (record x.arrived { bytes = bytes_more b x; whole = true; trailers = q }) ts s m
+    (read_holds p x b ts true (record x.arrived { bytes = bytes_more b x; whole = true; trailers = q }) ts s m refl
+    (other_trailers x.head x.arrived.framed x.trailers ts (out (course p)) (none_out p x s m.unfinished) s.ties.parts)
     (record { head = o.head; framed = o.framed; own = o.own; whole = refl; trailers = f; bytes = count_read x b (course p).original.body o.bytes; bare = λ z. absurd (clash z); unread = λ z. absurd (clash (sym m.read ∙ ap is_some z)) })
     (ap (under p.config TrailerPart ts) (sym (none_asked p x s m.unfinished))))
   where

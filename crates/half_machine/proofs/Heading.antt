@@ -1,43 +1,25 @@
 -- A half that got its head stands for the course that has it.
-use Rattle.std.proofs.Common.{refl, sym, ◌∙◌, ap, arith}
-use Rattle.std.specs.Prelude.{ℕ, ◌≡◌, ◌+◌, Bool, true, false, List, Some, None, [], length, drop, zip, find, Option, is_some, option_map, if◌then◌else◌}
+use Rattle.std.proofs.Common.{refl, sym, ◌∙◌, ap, arith, subst}
+use Rattle.std.specs.Prelude.{ℕ, ◌≡◌, ◌+◌, Bool, true, false, List, Some, None, [], length, drop, is_some}
 use Rattle.std.specs.List.{list_any}
 use Rattle.ext_msgs.specs.declared.lists.Field.{Field}
-use Rattle.ext_msgs.specs.declared.answer.Common.{Common}
 use Rattle.http_model.specs.Heads.{is_bodiless}
 use Rattle.http_model.specs.declared.types.Direction.{Direction}
 use Rattle.http_model.specs.declared.types.Length.{Length}
 use Rattle.http_model.specs.declared.types.Framing.{Framing}
 use Rattle.filter_model.specs.Config.{CourseConfig}
-use Rattle.filter_model.specs.Course.{Course, AskedPart, changed_head, head_kind, under, is_buffered, is_bare, is_body, is_headers, answer_to, replacement, replacement_at}
+use Rattle.filter_model.specs.Course.{Course, AskedPart, is_bare, is_body, is_headers, answer_to, replacement}
 use Rattle.filter_model.specs.Half.{Past, Head, called, progress, course}
 use Rattle.filter_model.specs.Sound.{Sound}
-use Rattle.half_machine.specs.Stands.{OfHold, Ties, StandsFor, own_framing, flow}
+use Rattle.half_machine.specs.Stands.{AreKept, OfHold, Ties, StandsFor, own_framing, flow}
 use Rattle.half_machine.specs.Calls.{MayHead}
 use Rattle.half_machine.specs.Choosing.{Holds}
 use Rattle.half_machine.specs.declared.half.Half.{Half}
+use Rattle.half_machine.proofs.Early.{unanswered, unreplaced_at, same_head}
 use Rattle.half_machine.proofs.AtHand.{flow_kept}
 use Rattle.half_machine.proofs.Lending.{hand_kept}
 use Rattle.half_machine.proofs.Coming.{unasked_all}
 use Rattle.body_hold.specs.Held.{Held}
-
--- Before the head nothing was asked, so nothing was answered
-
-unanswered : (kind : AskedPart → Bool) (w : Course) → w.asks ≡ [] → answer_to kind w ≡ None
-unanswered kind w e = ap (λ (l : List AskedPart). option_map (λ (q : AskedPart × Common). q.1) (find (λ (q : AskedPart × Common). kind q.0) (zip l w.answers))) e
-
-unreplaced_at : (bare : Bool) (o : Option Common) → o ≡ None → is_some (replacement_at bare o) ≡ false
-unreplaced_at true o e = refl
-unreplaced_at false o e = ap (λ z. is_some (replacement_at false z)) e
-
-same_head : (c : CourseConfig) (d : Direction) (w : Course) (f : List Field) → answer_to is_headers w ≡ None → answer_to is_body w ≡ None → f ≡ changed_head c d w f
-same_head c d w f e g =
-    sym (ap (λ (o : Option Common). if is_buffered w.modes.body then under c (head_kind d) (under c (head_kind d) f o) (answer_to is_body w) else under c (head_kind d) f o) e
-    ∙ ap (λ (o : Option Common). if is_buffered w.modes.body then under c (head_kind d) f o else f) g ∙ by (is_buffered w.modes.body))
-  where
-    by : (b : Bool) → (if b then f else f) ≡ f
-    by true = refl
-    by false = refl
 
 abbrev headed : List Field → Length → Course → Course
 headed f n w = record w { original = record w.original { head = Some f; length = n; whole = is_bodiless n } }
@@ -116,7 +98,7 @@ head_holds p x f n own bare s m e g =
           headers = t.rule.headers;
           body = t.rule.body;
         };
-        asked = record { any = t.asked.any; body = t.asked.body; last = t.asked.last; trailers = t.asked.trailers; unsent = t.asked.unsent; unhanded = t.asked.unhanded; order = t.asked.order };
+        asked = record { any = t.asked.any; body = t.asked.body; last = t.asked.last; trailers = t.asked.trailers; unsent = t.asked.unsent; unhanded = t.asked.unhanded; order = t.asked.order; answered = t.asked.answered };
         counts = record { unasked = t.counts.unasked ∙ unasked_all d w kept ∙ sym (unasked_all d (headed f n w) keeps); pieces = t.counts.pieces; waiting = t.counts.waiting };
         gone = record { framing = t.gone.framing; head = t.gone.head; trailers = t.gone.trailers; ended = t.gone.ended; early = t.gone.early };
         hold = hold_headed c d w (progress p).taken.body x.hold f n kept keeps t.hold;
@@ -124,10 +106,15 @@ head_holds p x f n own bare s m e g =
         head = ap Some (same_head c d (headed f n w) f headers (unanswered is_body w read.1));
         fields = λ o z. absurd (none_is_not_some (ap is_some (sym z) ∙ ap is_some read.0));
         trailers = t.trailers;
+        parts = subst (AreKept (Some f) n x.trailers) (sym (ap (drop (length w.answers)) read.1 ∙ drop_none (length w.answers))) tt;
         few = t.few;
         sound = head_sound c w f n t.sound m.once fresh.1;
       },
     )
   where
+    drop_none : (k : ℕ) → drop {A = AskedPart} k [] ≡ []
+    drop_none ℕ.zero = refl
+    drop_none (ℕ.suc k) = refl
+
     none_is_not_some : true ≡ false → ⊥
     none_is_not_some e = cc

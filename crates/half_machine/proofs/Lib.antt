@@ -1,5 +1,6 @@
 pub mod Fresh
 pub mod Seen
+pub mod Early
 pub mod AtHand
 pub mod NextAsk
 pub mod Lending
@@ -11,3 +12,5 @@ pub mod Coming
 pub mod Owned
 pub mod Heading
 pub mod Settling
+pub mod Bodies
+pub mod Handed

@@ -1,10 +1,10 @@
 -- A half that made the ask that is due stands for the course with that ask.
-use Rattle.std.proofs.Common.{inl, inr, refl, sym, ◌∙◌, ap, arith, append-nil, length-append, length-drop}
+use Rattle.std.proofs.Common.{inl, inr, refl, sym, ◌∙◌, ap, arith, append-nil, length-append, length-drop, subst}
 use Rattle.std.proofs.lemmas.List.{map-append, length-take-le, drop-drop}
 use Rattle.std.proofs.lemmas.List.Elements.{filter-append}
 use Rattle.std.proofs.lemmas.List.Folds.{list_any-append}
 use Rattle.std.proofs.lemmas.List.Sums.{sum_by_push}
-use Rattle.std.specs.Prelude.{ℕ, ◌≡◌, ◌⊎◌, ◌+◌, ◌-◌, ◌*◌, ◌≤◌, Bool, true, false, not, ◌||◌, List, ◌∷◌, ◌++◌, Some, None, [], length, take, drop, map, filter, filter_map, flat_map, find, Option, is_some, option_map, unwrap_or, if◌then◌else◌}
+use Rattle.std.specs.Prelude.{ℕ, ◌≡◌, ◌⊎◌, ◌+◌, ◌-◌, ◌*◌, ◌≤◌, Bool, true, false, not, ◌||◌, List, ◌∷◌, ◌++◌, Some, None, [], length, take, drop, map, filter, filter_map, flat_map, find, Option, is_some, option_map, unwrap_or, if◌then◌else◌, nat_le, nat_lt, ◌==◌, ◌&&◌}
 use Rattle.std.specs.List.{list_any}
 use Rattle.ext_msgs.specs.declared.lists.Field.{Field}
 use Rattle.ext_msgs.specs.declared.answer.Common.{Common}
@@ -19,11 +19,16 @@ use Rattle.body_hold.specs.Steps.{lend}
 use Rattle.filter_model.specs.Config.{CourseConfig}
 use Rattle.filter_model.specs.Course.{Course, AskedPart, Headers, Body, Trailers, changed_at, changed_head, body_of, head_kind, under, is_buffered, is_body, is_headers, is_trailers, is_last_piece, is_stopped, is_passing, passing_at, mode, bytes_in, out, pairs, asked_bytes, answered_bytes, answered_pieces, answered_piece, answer_to, replaces, replacement, replacement_at, is_bare, unasked, next, next_body}
 use Rattle.filter_model.specs.Half.{Progress}
-use Rattle.filter_model.proofs.CourseGrows.{any_same, with_ask, zip_longer, drop_longer, passing_same, not_passing}
+use Rattle.filter_model.proofs.CourseGrows.{none_of_kind, any_same, with_ask, zip_longer, drop_longer, passing_same, not_passing}
 use Rattle.filter_model.proofs.Sounds.{ask_sound}
-use Rattle.half_machine.specs.Marks.{mark_of}
-use Rattle.half_machine.specs.Due.{mark_for, made_with, lent_by, part_of}
-use Rattle.half_machine.specs.Stands.{OfAnswers, OfAsks, OfCounts, OfHold, MadeWith, Ties, is_streamed, piece_bytes, left_hand, flow}
+use Rattle.half_machine.specs.Marks.{mark_of, is_of_headers}
+use Rattle.half_machine.specs.Due.{streamed_due, buffered_due, partial_due, due_by_mode, due_in, body_due, mark_for, made_with, lent_by, part_of}
+use Rattle.half_machine.specs.Facts.{mode_in}
+use Rattle.ext_msgs.specs.declared.modes.BodyMode.{BodyMode}
+use Rattle.ext_msgs.specs.declared.modes.BodyMode.TheVariants.{NoAsk, Streamed, Buffered, Partial}
+use Rattle.half_machine.proofs.Early.{unanswered, same_head}
+use Rattle.half_machine.specs.declared.facts.Arrived.{Arrived}
+use Rattle.half_machine.specs.Stands.{IsKept, AreKept, OfAnswers, OfAsks, OfCounts, OfHold, MadeWith, Ties, is_streamed, piece_bytes, left_hand, flow}
 use Rattle.half_machine.specs.Asking.{due_of, with_due, lent_to, counted_for}
 use Rattle.half_machine.specs.declared.due.Due.{Due}
 use Rattle.half_machine.specs.declared.due.Due.TheVariants as due
@@ -126,6 +131,7 @@ asked_more k w handed q a s y u h b l t =
       unsent = omega arith;
       unhanded = omega arith;
       order = s.order;
+      answered = s.answered;
     }
 
 or_none : (x : Bool) → x ≡ (x || (false || false))
@@ -252,13 +258,118 @@ hold_lent c d w handed n last h m r u l k e s =
     clash : true ≡ false → ⊥
     clash e = cc
 
+-- What it is about is kept
+
+kept_more : (head : Option (List Field)) (framed : Length) (trailers : List Field) (asks : List AskedPart) (q : AskedPart) → AreKept head framed trailers asks → IsKept head framed trailers q
+    → AreKept head framed trailers (asks ++ q ∷ [])
+kept_more head framed trailers [] q s e = (e, tt)
+kept_more head framed trailers (p ∷ asks) q s e = (s.0, kept_more head framed trailers asks q s.1 e)
+
+is_piece : Option Due → Bool
+is_piece None = true
+is_piece (Some due.Headers) = false
+is_piece (Some (due.Body n last)) = true
+is_piece (Some due.Trailers) = false
+
+streamed_piece : (z l q e : Bool) (n : ℕ)
+    → is_piece (if z then (if l then Some (due.Body 0 true) else None) else if q then Some (due.Body n e) else Some (due.Body 16_384 false)) ≡ true
+unfolding is_piece
+streamed_piece true true q e n = refl
+streamed_piece true false q e n = refl
+streamed_piece false l true e n = refl
+streamed_piece false l false e n = refl
+
+buffered_piece : (b e : Bool) (n : ℕ) → is_piece (if b then Some (due.Body n e) else None) ≡ true
+unfolding is_piece
+buffered_piece true e n = refl
+buffered_piece false e n = refl
+
+partial_piece : (b l w e : Bool) (limit n : ℕ) → is_piece (if b then None else if l then Some (due.Body limit false) else if w then Some (due.Body n e) else None) ≡ true
+unfolding is_piece
+partial_piece true l w e limit n = refl
+partial_piece false true w e limit n = refl
+partial_piece false false true e limit n = refl
+partial_piece false false false e limit n = refl
+
+body_piece : (a : Arrived) (k : Asked) (limit n : ℕ) (bare : Bool) (m : BodyMode)
+    → is_piece (if bare then None else due_by_mode m (streamed_due a k n) (buffered_due a k n) (partial_due a k limit n)) ≡ true
+unfolding is_piece
+body_piece a k limit n true m = refl
+body_piece a k limit n false NoAsk = refl
+body_piece a k limit n false Streamed = streamed_piece (n == 0) ((a.whole && not a.trailers) && k.body && not k.last) (nat_le n 16_384) (a.whole && not a.trailers) n
+body_piece a k limit n false Buffered = buffered_piece (a.whole && not k.body) (not a.trailers) n
+body_piece a k limit n false Partial = partial_piece k.body (nat_lt limit n) a.whole (not a.trailers) limit n
+
+from_headers : (head r s first h q : Bool) (b : Option Due) → is_piece b ≡ true → due_in head r s first h b (if q then Some due.Trailers else None) ≡ Some due.Headers → (head ≡ true) × (first ≡ true)
+unfolding is_piece
+from_headers false r s first h q b i e = absurd cc
+from_headers true true s first h q b i e = absurd cc
+from_headers true false true first h q b i e = absurd cc
+from_headers true false false true h q b i e = (refl, refl)
+from_headers true false false false true q b i e = absurd cc
+from_headers true false false false false q (Some due.Headers) i e = absurd cc
+from_headers true false false false false q (Some (due.Body n last)) i e = absurd cc
+from_headers true false false false false q (Some due.Trailers) i e = absurd cc
+from_headers true false false false false true None i e = absurd cc
+from_headers true false false false false false None i e = absurd cc
+
+from_trailers : (head r s first h q : Bool) (b : Option Due) → is_piece b ≡ true → due_in head r s first h b (if q then Some due.Trailers else None) ≡ Some due.Trailers → q ≡ true
+unfolding is_piece
+from_trailers false r s first h q b i e = absurd cc
+from_trailers true true s first h q b i e = absurd cc
+from_trailers true false true first h q b i e = absurd cc
+from_trailers true false false true h q b i e = absurd cc
+from_trailers true false false false true q b i e = absurd cc
+from_trailers true false false false false q (Some due.Headers) i e = absurd cc
+from_trailers true false false false false q (Some (due.Body n last)) i e = absurd cc
+from_trailers true false false false false q (Some due.Trailers) i e = absurd cc
+from_trailers true false false false false true None i e = refl
+from_trailers true false false false false false None i e = absurd cc
+
+last_false : (x y : Bool) → (x && not y) ≡ true → y ≡ false
+last_false true true e = absurd cc
+last_false true false e = refl
+last_false false y e = absurd cc
+
+headers_kept : (c : CourseConfig) (d : Direction) (p : Progress) (x : Half) → Ties c d p x → due_of x ≡ Some due.Headers → IsKept x.head x.arrived.framed x.trailers (part p x due.Headers)
+headers_kept c d p x t e =
+    let w : Course = p.course in
+    let f = from_headers x.arrived.head x.rule.released x.rule.stopped (x.rule.modes.headers && not x.asked.any) (list_any is_of_headers x.marks)
+    (x.rule.modes.trailers && x.arrived.whole && x.arrived.trailers && not x.asked.trailers) (body_due x.arrived x.rule x.asked x.limit (length x.hold.hand))
+    (body_piece x.arrived x.asked x.limit (length x.hold.hand) (is_bodiless x.arrived.framed) (mode_in x.rule)) e in
+    let none : w.asks ≡ [] = empty_asks w.asks (sym t.asked.any ∙ last_false x.rule.modes.headers x.asked.any f.1) in
+    (t.head ∙ at w.original.head (sym t.arrived.head ∙ f.0) none, ap is_bodiless (sym t.arrived.framed))
+  where
+    empty_asks : (asks : List AskedPart) → not (is_empty asks) ≡ false → asks ≡ []
+    empty_asks [] e = refl
+    empty_asks (q ∷ asks) e = absurd cc
+
+    at : (o : Option (List Field)) → is_some o ≡ true → p.course.asks ≡ [] → option_map (changed_head c d p.course) o ≡ Some (unwrap_or o [])
+    at None e z = absurd cc
+    at (Some f) e z = ap Some (sym (same_head c d p.course f (unanswered is_headers p.course z) (unanswered is_body p.course z)))
+
+trailers_kept : (c : CourseConfig) (d : Direction) (p : Progress) (x : Half) → Ties c d p x → due_of x ≡ Some due.Trailers → IsKept x.head x.arrived.framed x.trailers (part p x due.Trailers)
+trailers_kept c d p x t e =
+    let w : Course = p.course in
+    let q = from_trailers x.arrived.head x.rule.released x.rule.stopped (x.rule.modes.headers && not x.asked.any) (list_any is_of_headers x.marks)
+    (x.rule.modes.trailers && x.arrived.whole && x.arrived.trailers && not x.asked.trailers) (body_due x.arrived x.rule x.asked x.limit (length x.hold.hand))
+    (body_piece x.arrived x.asked x.limit (length x.hold.hand) (is_bodiless x.arrived.framed) (mode_in x.rule)) e in
+    let none : list_any is_trailers w.asks ≡ false = sym t.asked.trailers ∙ last_false (x.rule.modes.trailers && x.arrived.whole && x.arrived.trailers) x.asked.trailers (regroup x.rule.modes.trailers x.arrived.whole x.arrived.trailers x.asked.trailers q) in
+    t.trailers ∙ ap (λ z. under c TrailerPart w.original.trailers (option_map (λ (q : AskedPart × Common). q.1) z)) (none_of_kind is_trailers w.asks w.answers none)
+  where
+    regroup : (a b c k : Bool) → (a && b && c && not k) ≡ true → ((a && b && c) && not k) ≡ true
+    regroup true true true k e = e
+    regroup true true false k e = absurd cc
+    regroup true false c k e = absurd cc
+    regroup false b c k e = absurd cc
+
 -- All of a half
 
 assemble : (c : CourseConfig) (d : Direction) (p : Progress) (x : Half) (a : Due) (q : AskedPart) → Ties c d p x → mark_of q ≡ mark_for a
     → OfAsks (made_with a x.asked) (with_ask q p.course) p.handed → OfCounts (counted_for (lent_by a) x.counts) d (with_ask q p.course) p.taken.body
     → OfHold (lent_to (lent_by a) x.hold) c d (with_ask q p.course) p.taken.body → next c p.course ≡ Some q
-    → Ties c d (record p { course = with_ask q p.course }) (with_due a x)
-assemble c d p x a q t m k u h e =
+    → IsKept x.head x.arrived.framed x.trailers q → Ties c d (record p { course = with_ask q p.course }) (with_due a x)
+assemble c d p x a q t m k u h e y =
     let w : Course = p.course in
     let n : length w.answers ≤ length w.asks = t.sound.counts in
     record {
@@ -272,6 +383,7 @@ assemble c d p x a q t m k u h e =
       head = t.head ∙ sym (head_stays c d w q n w.original.head);
       fields = t.fields;
       trailers = t.trailers ∙ ap (under c TrailerPart w.original.trailers) (sym (answer_stays is_trailers w q n));
+      parts = subst (AreKept x.head x.arrived.framed x.trailers) (sym (out_more w q n)) (kept_more x.head x.arrived.framed x.trailers (out w) q t.parts y);
       few = fewer (lent_by a) t.few;
       sound = ask_sound c w q t.sound e;
     }
@@ -300,7 +412,7 @@ made_ties c d p x a m t e = by a e
         let q : AskedPart = part p x due.Headers in
         assemble c d p x due.Headers q t refl (asks_of due.Headers)
         (counts_with x.counts d p.course p.taken.body q x.counts.unasked t.sound.counts on.0 (unstopped_keeps d p.course on.1) t.counts (minus_none x.counts.unasked))
-        (hold_stays c d p.course p.taken.body q x.hold t.sound.counts on.0 refl refl refl t.hold) (next_of due.Headers e)
+        (hold_stays c d p.course p.taken.body q x.hold t.sound.counts on.0 refl refl refl t.hold) (next_of due.Headers e) (headers_kept c d p x t e)
     by (due.Body n last) e =
         let f : LendsFrom c p x n last = lends_from c d p x n last m t e in
         let q : AskedPart = part p x (due.Body n last) in
@@ -310,10 +422,10 @@ made_ties c d p x a m t e = by a e
         (ap (λ z. x.counts.unasked - z) (sym (length-take-le n x.hold.hand f.there))))
         (hold_lent c d p.course p.taken.body n last x.hold t.sound.counts f.unreleased u f.there f.small
         (body_is_due c d p x m t f.unreleased f.going ∙ ap (option_map (part p x)) f.due) t.hold)
-        (next_of (due.Body n last) e)
+        (next_of (due.Body n last) e) tt
     by due.Trailers e =
         let on = going_on c d p x due.Trailers t e in
         let q : AskedPart = part p x due.Trailers in
         assemble c d p x due.Trailers q t refl (asks_of due.Trailers)
         (counts_with x.counts d p.course p.taken.body q x.counts.unasked t.sound.counts on.0 (unstopped_keeps d p.course on.1) t.counts (minus_none x.counts.unasked))
-        (hold_stays c d p.course p.taken.body q x.hold t.sound.counts on.0 refl refl refl t.hold) (next_of due.Trailers e)
+        (hold_stays c d p.course p.taken.body q x.hold t.sound.counts on.0 refl refl refl t.hold) (next_of due.Trailers e) (trailers_kept c d p x t e)

@@ -190,7 +190,7 @@ settle_holds p x m made s y e =
           headers = t.rule.headers;
           body = t.rule.body;
         };
-        asked = record { any = t.asked.any; body = t.asked.body; last = t.asked.last; trailers = t.asked.trailers; unsent = t.asked.unsent; unhanded = t.asked.unhanded; order = t.asked.order };
+        asked = record { any = t.asked.any; body = t.asked.body; last = t.asked.last; trailers = t.asked.trailers; unsent = t.asked.unsent; unhanded = t.asked.unhanded; order = t.asked.order; answered = t.asked.answered };
         counts = record { unasked = t.counts.unasked; pieces = t.counts.pieces; waiting = t.counts.waiting };
         gone = record { framing = t.gone.framing; head = t.gone.head; trailers = t.gone.trailers; ended = t.gone.ended; early = t.gone.early };
         hold = hold_settled c d w (progress p).taken.body x.hold n w.released refl (λ r. t.gone.early (u.head r)) u kept t.hold;
@@ -198,6 +198,7 @@ settle_holds p x m made s y e =
         head = t.head ∙ sym (same_head c d w n body w.original.head);
         fields = t.fields;
         trailers = t.trailers;
+        parts = t.parts;
         few = t.few;
         sound = settled_sound c w n t.sound u (headers_kept w.original.head w m c refl t.sound);
       },

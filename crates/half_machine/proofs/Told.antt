@@ -45,7 +45,7 @@ sent_holds p x s m =
       record {
         arrived = t.arrived;
         rule = rule_aside x.rule p.direction w w.head (suc w.sent) w.given t.rule;
-        asked = record { any = t.asked.any; body = t.asked.body; last = t.asked.last; trailers = t.asked.trailers; unsent = omega arith; unhanded = t.asked.unhanded; order = omega arith };
+        asked = record { any = t.asked.any; body = t.asked.body; last = t.asked.last; trailers = t.asked.trailers; unsent = omega arith; unhanded = t.asked.unhanded; order = omega arith; answered = t.asked.answered };
         counts = record { unasked = t.counts.unasked; pieces = t.counts.pieces; waiting = t.counts.waiting };
         gone = record { framing = t.gone.framing; head = t.gone.head; trailers = t.gone.trailers; ended = t.gone.ended; early = t.gone.early };
         hold = hold_aside x.hold p.config p.direction w (progress p).taken.body w.head (suc w.sent) w.given t.hold;
@@ -53,6 +53,7 @@ sent_holds p x s m =
         head = t.head;
         fields = t.fields;
         trailers = t.trailers;
+        parts = t.parts;
         few = t.few;
         sound = aside_sound p.config w (suc w.sent) w.given t.sound;
       },
@@ -79,7 +80,7 @@ given_holds p x n s m =
       record {
         arrived = t.arrived;
         rule = rule_aside x.rule p.direction w w.head w.sent (w.given + n) t.rule;
-        asked = record { any = t.asked.any; body = t.asked.body; last = t.asked.last; trailers = t.asked.trailers; unsent = t.asked.unsent; unhanded = t.asked.unhanded; order = t.asked.order };
+        asked = record { any = t.asked.any; body = t.asked.body; last = t.asked.last; trailers = t.asked.trailers; unsent = t.asked.unsent; unhanded = t.asked.unhanded; order = t.asked.order; answered = t.asked.answered };
         counts = record {
           unasked = ap (λ k. x.counts.unasked - (n - k)) j
               ∙ given_unasked (is_some (replacement p.direction w)) x.counts.unasked (length w.original.body) (if w.released then answered_bytes (pairs w) else asked_bytes w.asks) (piece_bytes w) w.given n t.counts.unasked;
@@ -92,6 +93,7 @@ given_holds p x n s m =
         head = t.head;
         fields = t.fields;
         trailers = t.trailers;
+        parts = t.parts;
         few = let k = t.few in omega arith;
         sound = aside_sound p.config w w.sent (w.given + n) t.sound;
       },

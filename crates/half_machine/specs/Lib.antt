@@ -5,3 +5,4 @@ pub mod Stands
 pub mod Asking
 pub mod Choosing
 pub mod Calls
+pub mod Handing

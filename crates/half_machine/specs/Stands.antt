@@ -1,5 +1,5 @@
 -- What a half stands for: each of its fields is what the definitions say of its past.
-use Rattle.std.specs.Prelude.{ℕ, ◌+◌, ◌-◌, ◌*◌, ◌≡◌, ◌≤◌, min, Bool, true, false, not, List, [], ◌++◌, length, drop, map, filter, flat_map, Some, None, is_some, option_map, if◌then◌else◌}
+use Rattle.std.specs.Prelude.{ℕ, ◌+◌, ◌-◌, ◌*◌, ◌≡◌, ◌≤◌, min, Bool, true, false, not, List, [], ◌∷◌, ◌++◌, length, drop, map, filter, flat_map, Some, None, is_some, option_map, if◌then◌else◌, Option}
 use Rattle.std.specs.List.{list_any}
 use Rattle.ext_msgs.specs.declared.lists.Field.{Field}
 use Rattle.ext_msgs.specs.declared.modes.BodyMode.{BodyMode}
@@ -8,13 +8,15 @@ use Rattle.header_mutation.specs.declared.rules.PartKind.TheVariants.{Trailers a
 use Rattle.header_mutation.specs.declared.rules.Rules.{Rules}
 use Rattle.header_mutation.specs.declared.setup.HalfSetup.{HalfSetup}
 use Rattle.http_model.specs.Bytes.{is_empty}
+use Rattle.http_model.specs.Heads.{is_bodiless}
 use Rattle.http_model.specs.Reads.{Original}
 use Rattle.http_model.specs.declared.types.Direction.{Direction}
 use Rattle.http_model.specs.declared.types.Direction.TheVariants.{Request, Response}
+use Rattle.http_model.specs.declared.types.Length.{Length}
 use Rattle.http_model.specs.declared.types.Framing.{Framing}
 use Rattle.http_model.specs.declared.types.Framing.TheVariants.{NoField}
 use Rattle.filter_model.specs.Config.{CourseConfig}
-use Rattle.filter_model.specs.Course.{Course, Outgoing, changed_at, changed_head, body_of, out, pairs, bytes_in, is_headers, is_body, is_trailers, is_last_piece, asked_bytes, answered_bytes, answered_pieces, answer_to, is_passing, is_stopped, replacement, replaces, under, unasked, framing_at}
+use Rattle.filter_model.specs.Course.{Course, AskedPart, Headers, Body, Trailers, Outgoing, changed_at, changed_head, body_of, out, pairs, bytes_in, is_headers, is_body, is_trailers, is_last_piece, asked_bytes, answered_bytes, answered_pieces, answer_to, is_passing, is_stopped, replacement, replaces, under, unasked, framing_at}
 use Rattle.filter_model.specs.Half.{Past, Progress, progress}
 use Rattle.filter_model.specs.Sound.{Sound}
 use Rattle.body_hold.specs.Held.{Held, joined}
@@ -57,6 +59,7 @@ pub record OfAsks (x : Asked) (w : Course) (handed : ℕ) : Type 0 where
   pub unsent : x.unsent + w.sent ≡ length w.asks
   pub unhanded : x.unhanded + handed ≡ length w.asks
   pub order : w.sent ≤ handed
+  pub answered : length w.answers ≤ handed
 
 abbrev pub piece_bytes : Course → ℕ
 piece_bytes w = length (flat_map (λ p. p) (answered_pieces w))
@@ -100,6 +103,16 @@ pub record OfGone (x : Gone) (p : Progress) : Type 0 where
   pub ended : x.ended ≡ p.taken.ended
   pub early : p.course.head ≡ None → p.taken.body ≡ 0
 
+-- what the asks that are out are about is still kept
+abbrev pub IsKept : Option (List Field) → Length → List Field → AskedPart → Type 0
+IsKept head framed trailers (Headers fields last) = (head ≡ Some fields) × (last ≡ is_bodiless framed)
+IsKept head framed trailers (Body bytes last) = Unit {0}
+IsKept head framed trailers (Trailers fields) = trailers ≡ fields
+
+abbrev pub AreKept : Option (List Field) → Length → List Field → List AskedPart → Type 0
+AreKept head framed trailers [] = Unit {0}
+AreKept head framed trailers (p ∷ asks) = IsKept head framed trailers p × AreKept head framed trailers asks
+
 pub record Ties (c : CourseConfig) (d : Direction) (p : Progress) (x : Half) : Type 0 where
   pub arrived : OfOriginal x.arrived p.course.original
   pub rule : OfAnswers x.rule d p.course
@@ -111,6 +124,7 @@ pub record Ties (c : CourseConfig) (d : Direction) (p : Progress) (x : Half) : T
   pub head : x.head ≡ option_map (changed_head c d p.course) p.course.original.head
   pub fields : (o : Outgoing) → p.course.head ≡ Some o → x.head ≡ Some o.fields
   pub trailers : x.trailers ≡ under c TrailerPart p.course.original.trailers (answer_to is_trailers p.course)
+  pub parts : AreKept x.head x.arrived.framed x.trailers (out p.course)
   pub few : x.counts.unasked ≤ (if p.course.released then c.buffer_limit * 2 + 131_072 else c.buffer_limit + 65_536)
   pub sound : Sound c p.course
 

@@ -1,6 +1,6 @@
 //! The asks that are out.
 
-ghost use Rattle.std.specs.Prelude.{◌≡◌, ◌<◌, ◌++◌, ◌∷◌, [], length, IfOk};
+ghost use Rattle.std.specs.Prelude.{◌≡◌, ◌<◌, ◌≤◌, ◌++◌, ◌∷◌, [], length, take, filter, slice_index_or, IfOk};
 ghost use Rattle.std.specs.List.{list_any};
 ghost use Rattle.half_machine.specs.Marks.{is_of_headers, is_of_body};
 
@@ -75,4 +75,43 @@ impl Marks {
             Mark::Headers | Mark::Trailers => false,
         })
     }
+
+    /// The i-th, from 0.
+    pub fn at(&self, i: u32) -> Mark
+        requires { i < length self.now }
+        ensures { result ≡ slice_index_or self.now i result }
+    {
+        self.items[i as usize]
+    }
+
+    /// How many of the body are before the i-th.
+    pub fn bodies_before(&self, i: u32) -> u32
+        requires { i ≤ length self.now }
+        ensures { result ≡ length (filter is_of_body (take i self.now)) }
+    {
+        bodies_before(self.items.as_slice(), i)
+    }
+}
+
+fn is_of_body(mark: Mark) -> bool
+    ensures { result ≡ is_of_body mark }
+{
+    match mark {
+        Mark::Body(_) => true,
+        Mark::Headers | Mark::Trailers => false,
+    }
+}
+
+#[tactic(auto, using(crate::proofs::Bodies::one_more, crate::proofs::Bodies::none_more))]
+fn bodies_before(marks: &[Mark], i: u32) -> u32
+    requires { i ≤ length marks.now }
+    ensures { result ≡ length (filter is_of_body (take i marks.now)) }
+{
+    let mut n = 0u32;
+    'marks: for k in 0..i {
+        if is_of_body(marks[k as usize]) {
+            n += 1;
+        }
+    }
+    n
 }

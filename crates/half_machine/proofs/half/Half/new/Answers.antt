@@ -23,7 +23,7 @@ returns c config f =
       ties = record {
         arrived = record { head = refl; framed = refl; own = λ h e. absurd cc; whole = refl; trailers = refl; bytes = refl; bare = λ e. refl; unread = λ e. (refl, refl) };
         rule = record { modes = refl; released = refl; stopped = refl; passes = refl; replaced = sym (fresh_kept d modes); headers = refl; body = refl };
-        asked = record { any = refl; body = refl; last = refl; trailers = refl; unsent = refl; unhanded = refl; order = omega arith };
+        asked = record { any = refl; body = refl; last = refl; trailers = refl; unsent = refl; unhanded = refl; order = omega arith; answered = omega arith };
         counts = record { unasked = sym (fresh_unasked d modes); pieces = refl; waiting = refl };
         gone = record { framing = refl; head = refl; trailers = refl; ended = refl; early = λ e. refl };
         hold = fresh_hold config d modes c.in_ok-hold.hold c.args.setup.buffer_limit c.args.setup.answer_limit c.in_ok-hold.ensures;
@@ -31,6 +31,7 @@ returns c config f =
         head = refl;
         fields = λ o e. absurd cc;
         trailers = c.new-3.ensures;
+        parts = tt;
         few = omega arith;
         sound = fresh_sound config modes;
       };
