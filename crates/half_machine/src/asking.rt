@@ -6,8 +6,8 @@ ghost use Rattle.half_machine.specs.Asking.{queued, may_ask, with_due, one_asked
 use crate::due::{Due, is_passing, lent_by, made_with, mark_for, next_due};
 use crate::half::Half;
 
-// With more body bytes than that waiting to be given, no ask is made.
-const MARK: u64 = 65_536;
+/// With more body bytes than that waiting to be given, no ask is made; and as many may wait unasked.
+pub(crate) const MARK: u32 = 65_536;
 
 impl Half {
     /// Body bytes that no ask covers pass.
@@ -34,7 +34,7 @@ impl Half {
     fn may_ask(&self) -> bool
         ensures { result ≡ may_ask self.now }
     {
-        self.marks.len() < 4 && self.asked.unsent < 4 && self.queued() <= MARK
+        self.marks.len() < 4 && self.asked.unsent < 4 && self.queued() <= u64::from(MARK)
     }
 
     fn make(&mut self, due: Due)

@@ -16,8 +16,8 @@ pub enum Due {
     Trailers,
 }
 
-// The greatest piece of a streamed body.
-const PIECE: u32 = 16_384;
+/// The greatest piece that is asked or comes at once.
+pub(crate) const PIECE: u32 = 16_384;
 
 fn streamed_due(arrived: &Arrived, asked: &Asked, at_hand: u32) -> Option<Due>
     ensures { result ≡ streamed_due arrived.now asked.now at_hand }

@@ -7,19 +7,17 @@ ghost use Rattle.filter_model.specs.Course.{body_room, is_over, out};
 ghost use Rattle.filter_model.specs.Half.{Past, course};
 ghost use Rattle.half_machine.specs.Stands.{StandsFor, Fits, direction_of};
 
+use crate::asking::MARK;
+use crate::due::PIECE;
 use crate::facts::{
     Arrived, Asked, Counts, Gone, Ruled, is_buffered, is_collecting, is_settled, mode_of,
 };
 use crate::marks::Marks;
 use body_hold::Hold;
-use ext_msgs::{FieldList, PartModes};
+use ext_msgs::FieldList;
 use header_mutation::{HalfSetup, Rules};
 use http_model::{Direction, Framing, Length};
 use std::alloc::{AllocError, Global};
-
-const PIECE: u32 = 16_384;
-
-const MARK: u32 = 65_536;
 
 /// One direction of a message on its way through the filter.
 ///
