@@ -382,7 +382,7 @@ last_of_and true true e = absurd cc
 last_of_and true false e = (refl, refl)
 last_of_and false y e = absurd cc
 
-none_of_kind : (kind : AskedPart → Bool) (asks : List AskedPart) (answers : List Common) → list_any kind asks ≡ false
+pub none_of_kind : (kind : AskedPart → Bool) (asks : List AskedPart) (answers : List Common) → list_any kind asks ≡ false
     → find (λ (q : AskedPart × Common). kind q.0) (zip asks answers) ≡ None
 none_of_kind kind [] answers e = refl
 none_of_kind kind (p ∷ asks) [] e = refl

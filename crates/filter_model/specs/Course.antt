@@ -282,9 +282,10 @@ changed_trailers c w =
 
 -- The framing is chosen with the head, once: RFC 9112 section 6
 
+-- a number that 64 bits don't hold counts as the greatest that they do; no reader takes a length from 2^63 on
 abbrev pub length_in : List (List ℕ) → Framing
 length_in [] = NoField
-length_in (value ∷ values) = OfLength (decimal_value value)
+length_in (value ∷ values) = OfLength (min (decimal_value value) 18_446_744_073_709_551_615)
 
 abbrev pub own_length : List Field → Framing
 own_length head = length_in (values_of (codes "content-length") head)

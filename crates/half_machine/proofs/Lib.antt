@@ -1,0 +1,16 @@
+pub mod Fresh
+pub mod Seen
+pub mod Early
+pub mod AtHand
+pub mod NextAsk
+pub mod Lending
+pub mod Making
+pub mod Permit
+pub mod Chosen
+pub mod Told
+pub mod Coming
+pub mod Owned
+pub mod Heading
+pub mod Settling
+pub mod Bodies
+pub mod Handed
