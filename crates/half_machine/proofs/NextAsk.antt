@@ -95,9 +95,6 @@ streamed_plain g o asks (b ∷ rest) q a k e f h i =
 
 -- All of the body, or the first bytes of it
 
-take_same : (n : ℕ) (hand body : List ℕ) → hand ≡ body → take (length hand) hand ≡ body
-take_same n hand body e = take-length hand ∙ e
-
 buffered_plain : (g : Due → AskedPart) (o : Original) (made : Bool) (hand : List ℕ) → ((n : ℕ) (last : Bool) → g (due.Body n last) ≡ Body (take n hand) last)
     → (a : Arrived) (k : Asked) → a.whole ≡ o.whole → a.trailers ≡ not (is_empty o.trailers) → k.body ≡ made → (made ≡ false → hand ≡ o.body)
     → next_buffered o made ≡ option_map g (buffered_due a k (length hand))

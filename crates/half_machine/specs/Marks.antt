@@ -18,6 +18,6 @@ mark_of (Headers fields last) = mark.Headers
 mark_of (Body bytes last) = mark.Body last
 mark_of (Trailers fields) = mark.Trailers
 
-pub record IsReserved (items : Vec Mark) : Type 0 where
+pub record HasSlots (items : Vec Mark) : Type 0 where
   pub few : vec_len items ≤ 4
   pub room : 4 ≤ vec_capacity items

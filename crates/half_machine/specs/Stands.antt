@@ -155,7 +155,7 @@ abbrev pub direction_of : Bool → Direction
 direction_of true = Response
 direction_of false = Request
 
-pub record Fits (c : CourseConfig) (setup : HalfSetup) : Type 0 where
+pub record FitsSetup (c : CourseConfig) (setup : HalfSetup) : Type 0 where
   pub piece : c.piece ≡ 16_384
   pub mark : c.mark ≡ 65_536
   pub limit : c.buffer_limit ≡ setup.buffer_limit

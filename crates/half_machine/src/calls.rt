@@ -29,7 +29,8 @@ impl Half {
     /// Other modes: before the head, or, without effect on that of the headers, while their ask is out.
     pub fn settle(&mut self, modes: PartModes)
         requires { Stands self.old MaySettle }
-        ensures { (p : Past) → StandsFor p self.old → MaySettle p → StandsFor (after_step (Told (Settle modes)) p) self.new }
+        ensures { (p : Past) → StandsFor p self.old → MaySettle p
+            → StandsFor (after_step (Told (Settle modes)) p) self.new }
     {
         self.rule.modes = settled(self.arrived.head, self.rule.modes, modes);
         self.go_on();
@@ -38,7 +39,8 @@ impl Half {
     /// Its head, and how that says that its body ends. It comes once.
     pub fn head(&mut self, head: FieldList, length: Length)
         requires { Stands self.old MayHead }
-        ensures { (p : Past) → StandsFor p self.old → MayHead p → StandsFor (after_step (Told (HeadCame head length)) p) self.new }
+        ensures { (p : Past) → StandsFor p self.old → MayHead p
+            → StandsFor (after_step (Told (HeadCame head length)) p) self.new }
     {
         self.arrived.head = true;
         self.arrived.framed = length;
@@ -60,7 +62,8 @@ impl Half {
     /// That n more body bytes were given to the other side.
     pub fn given(&mut self, n: u32)
         requires { Stands self.old (λ p. MayGiven p n) }
-        ensures { (p : Past) → StandsFor p self.old → MayGiven p n → StandsFor (after_step (Told (SoManyGiven n)) p) self.new }
+        ensures { (p : Past) → StandsFor p self.old → MayGiven p n
+            → StandsFor (after_step (Told (SoManyGiven n)) p) self.new }
     {
         let passed = n.saturating_sub(self.counts.pieces);
         self.counts.unasked = self.counts.unasked.saturating_sub(passed);

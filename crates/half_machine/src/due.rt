@@ -91,7 +91,8 @@ pub fn next_due(
     limit: u32,
     at_hand: u32,
 ) -> Option<Due>
-    ensures { result ≡ due_at arrived.now rule.now asked.now headers_out (body_due arrived.now rule.now asked.now limit at_hand)
+    ensures { result ≡ due_at arrived.now rule.now asked.now headers_out
+        (body_due arrived.now rule.now asked.now limit at_hand)
         (trailers_due arrived.now rule.now asked.now) }
 {
     if !arrived.head || rule.released || rule.stopped {

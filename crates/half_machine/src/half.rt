@@ -5,7 +5,7 @@ ghost use Rattle.body_hold.specs.Held.{held};
 ghost use Rattle.filter_model.specs.Config.{CourseConfig};
 ghost use Rattle.filter_model.specs.Course.{body_room, is_over, out};
 ghost use Rattle.filter_model.specs.Half.{Past, course};
-ghost use Rattle.half_machine.specs.Stands.{StandsFor, Fits, direction_of};
+ghost use Rattle.half_machine.specs.Stands.{StandsFor, FitsSetup, direction_of};
 
 use crate::asking::MARK;
 use crate::due::PIECE;
@@ -57,7 +57,7 @@ impl Half {
         requires limit { setup.buffer_limit ≤ 1_048_576 }
         requires least_answer { 1_024 ≤ setup.answer_limit }
         requires answer { setup.answer_limit ≤ 2_097_152 }
-        ensures { IfOk result (λ x. (c : CourseConfig) → Fits c setup → StandsFor (record {
+        ensures { IfOk result (λ x. (c : CourseConfig) → FitsSetup c setup → StandsFor (record {
           config = c;
           direction = direction_of setup.response;
           modes = setup.modes;

@@ -24,13 +24,13 @@ pub struct Marks {
 impl Model for Marks {
     ghost use Rattle.std.specs.Prelude.{List};
     ghost use Rattle.half_machine.specs.declared.marks.Mark.{Mark};
-    ghost use Rattle.half_machine.specs.Marks.{IsReserved};
+    ghost use Rattle.half_machine.specs.Marks.{HasSlots};
 
     ghost Value = { List Mark };
 
     ghost view = { λ m. m.items.items };
 
-    ghost invariant = { λ m. IsReserved m.items };
+    ghost invariant = { λ m. HasSlots m.items };
 }
 
 impl Marks {
