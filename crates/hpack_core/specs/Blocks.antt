@@ -1,6 +1,5 @@
 -- Blocks: joined representations, each a form, an integer spelling and strings.
-use Rattle.std.specs.Prelude.{ℕ, zero, suc, ◌≡◌, ◌-◌, ◌<◌, ◌≤◌, ◌⊎◌, Bool, true, false, List, [], ◌∷◌, ◌++◌, length, Option, Some, None}
-use Rattle.std.proofs.Common.{get_or}
+use Rattle.std.specs.Prelude.{ℕ, zero, suc, ◌≡◌, ◌-◌, ◌<◌, ◌≤◌, ◌⊎◌, Bool, true, false, List, [], ◌∷◌, ◌++◌, length, Option, Some, None, get_or}
 use Rattle.hpack_prim.specs.Integers.{IsInt}
 use Rattle.hpack_prim.specs.Huffman.{IsHuff}
 use Rattle.ext_msgs.specs.declared.lists.Field.{Field}

@@ -1,6 +1,5 @@
 -- Reading a block, place by place: what stands there, or the first fault.
-use Rattle.std.specs.Prelude.{ℕ, zero, suc, ◌≡◌, ◌+◌, ◌-◌, nat_lt, nat_le, Bool, true, false, List, [], ◌∷◌, length, take, drop, Result, Ok, Err, Option, Some, None, if◌then◌else◌}
-use Rattle.std.proofs.Common.{get_or}
+use Rattle.std.specs.Prelude.{ℕ, zero, suc, ◌≡◌, ◌+◌, ◌-◌, nat_lt, nat_le, Bool, true, false, List, [], ◌∷◌, length, take, drop, Result, Ok, Err, Option, Some, None, if◌then◌else◌, get_or}
 use Rattle.hpack_prim.specs.declared.fault.PrimFault.{PrimFault}
 use Rattle.hpack_prim.specs.declared.fault.PrimFault.TheVariants.{Truncated, TooLarge, Eos, Padding}
 use Rattle.hpack_core.specs.declared.fault.HpackFault.{HpackFault}

@@ -1,7 +1,6 @@
 //! The static table: RFC 7541, appendix A.
 
-ghost use Rattle.std.specs.Prelude.{◌≡◌, ◌<◌, []};
-ghost use Rattle.std.proofs.Common.{get_or};
+ghost use Rattle.std.specs.Prelude.{◌≡◌, ◌<◌, [], get_or};
 ghost use Rattle.hpack_core.specs.Static.{entry, static_table};
 ghost use Rattle.hpack_core.specs.Writing.{is_field, field_number, name_number};
 ghost use Rattle.std.specs.Str.{bytes_eq};

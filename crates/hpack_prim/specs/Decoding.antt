@@ -1,6 +1,5 @@
 -- The code at the front of bits, by tables.
-use Rattle.std.specs.Prelude.{ℕ, ◌≡◌, ◌≤◌, List, ◌++◌, length, drop, Some}
-use Rattle.std.proofs.Common.{get_or}
+use Rattle.std.specs.Prelude.{ℕ, ◌≡◌, ◌≤◌, List, ◌++◌, length, drop, Some, get_or}
 use Rattle.hpack_prim.specs.declared.decode_table.TheConstants.{LENGTHS_8, SYMBOLS_8, LENGTHS_15, SYMBOLS_15, LENGTHS_22, SYMBOLS_22, LENGTHS_24, SYMBOLS_24, LENGTHS_28, SYMBOLS_28, LENGTHS_30, SYMBOLS_30}
 use Rattle.hpack_prim.specs.Huffman.{bits, bits_of, symbol_at}
 

@@ -1,6 +1,5 @@
 -- Bits written one by one.
-use Rattle.std.specs.Prelude.{ℕ, ◌^◌, ◌<◌, List, ◌++◌, take}
-use Rattle.std.proofs.Common.{get_or}
+use Rattle.std.specs.Prelude.{ℕ, ◌^◌, ◌<◌, List, ◌++◌, take, get_or}
 use Rattle.hpack_prim.specs.declared.encode_table.TheConstants.{CODES, LENGTHS}
 use Rattle.hpack_prim.specs.Huffman.{bits, bits_of}
 

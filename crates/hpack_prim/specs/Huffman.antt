@@ -1,6 +1,5 @@
 -- The Huffman code: words of bits for the symbols from 0 to 256, of which 256 is the end.
-use Rattle.std.specs.Prelude.{ℕ, zero, suc, ◌≡◌, ◌+◌, ◌-◌, ◌*◌, ◌/◌, ◌%◌, ◌^◌, ◌<◌, nat_lt, nat_eq, Bool, true, false, ◌&&◌, List, [], ◌∷◌, ◌++◌, length, Result, Ok, Err, Option, Some, None, if◌then◌else◌, position}
-use Rattle.std.proofs.Common.{get_or}
+use Rattle.std.specs.Prelude.{ℕ, zero, suc, ◌≡◌, ◌+◌, ◌-◌, ◌*◌, ◌/◌, ◌%◌, ◌^◌, ◌<◌, nat_lt, nat_eq, Bool, true, false, ◌&&◌, List, [], ◌∷◌, ◌++◌, length, Result, Ok, Err, Option, Some, None, if◌then◌else◌, position, get_or}
 use Rattle.std.specs.List.{flat_map, list_all, AllByRecursion}
 use Rattle.hpack_prim.specs.declared.fault.PrimFault.{PrimFault}
 use Rattle.hpack_prim.specs.declared.fault.PrimFault.TheVariants.{Truncated, TooLarge, Eos, Padding}

@@ -1,7 +1,6 @@
 //! Reading Huffman strings: RFC 7541, section 5.2 and appendix B.
 
-ghost use Rattle.std.specs.Prelude.{◌≡◌, ◌/◌, ◌%◌, ◌∷◌, [], ◌+◌, ◌-◌, ◌*◌, ◌^◌, ◌<◌, ◌≤◌, length, take, drop, Some, None, Ok, Err, MatchOption, MatchResult, IfSome, IfOk, IfErr};
-ghost use Rattle.std.proofs.Common.{get_or};
+ghost use Rattle.std.specs.Prelude.{◌≡◌, ◌/◌, ◌%◌, ◌∷◌, [], ◌+◌, ◌-◌, ◌*◌, ◌^◌, ◌<◌, ◌≤◌, length, take, drop, Some, None, Ok, Err, MatchOption, MatchResult, IfSome, IfOk, IfErr, get_or};
 ghost use Rattle.hpack_prim.specs.Huffman.{bits, bits_of, symbol_at, is_padding, huff_of, place_of};
 ghost use Rattle.hpack_prim.specs.Decoding.{Begins, HoldsBits, entry_8, entry_15, entry_22, entry_24, entry_28, entry_30};
 
