@@ -13,6 +13,7 @@ use crate::facts::{
     Arrived, Asked, Counts, Gone, Ruled, is_buffered, is_collecting, is_settled, mode_of,
 };
 use crate::marks::Marks;
+use crate::ready::Ready;
 use body_hold::Hold;
 use ext_msgs::FieldList;
 use header_mutation::{HalfSetup, Rules};
@@ -37,6 +38,7 @@ pub struct Half {
     pub(crate) gone: Gone,
     pub(crate) hold: Hold,
     pub(crate) marks: Marks,
+    pub(crate) ready: Ready,
     pub(crate) head: Option<FieldList>,
     pub(crate) trailers: FieldList,
 }
@@ -109,6 +111,7 @@ impl Half {
             },
             hold,
             marks,
+            ready: Ready::new(alloc),
             head: None,
             trailers: FieldList::new(alloc),
         })

@@ -15,5 +15,6 @@ mod half;
 mod handing;
 mod marks;
 mod own;
+mod ready;
 
 pub use half::Half;
