@@ -254,6 +254,8 @@ read_holds p x b ts e a f s m n k o g =
         counts = record { unasked = unasked_read c d (progress p) x b ts e x.rule.replaced same t; pieces = t.counts.pieces; waiting = t.counts.waiting };
         gone = record { framing = t.gone.framing; head = t.gone.head; trailers = t.gone.trailers; ended = t.gone.ended; early = t.gone.early };
         hold = hold_read c d (progress p) x b ts e x.rule.replaced same r.hand t;
+        pieces = t.pieces;
+        pieces_fit = t.pieces_fit;
         marks = t.marks;
         head = t.head;
         fields = t.fields;

@@ -176,6 +176,8 @@ handed_ties p x y s u l o r =
         counts = t.counts;
         gone = record { framing = t.gone.framing; head = t.gone.head; trailers = t.gone.trailers; ended = t.gone.ended; early = t.gone.early };
         hold = t.hold;
+        pieces = t.pieces;
+        pieces_fit = t.pieces_fit;
         marks = t.marks;
         head = t.head;
         fields = t.fields;

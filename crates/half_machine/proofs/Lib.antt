@@ -3,6 +3,7 @@ pub mod Seen
 pub mod Early
 pub mod AtHand
 pub mod AskedBody
+pub mod PiecesLeft
 pub mod NextAsk
 pub mod Lending
 pub mod Making

@@ -2,6 +2,7 @@ pub mod Marks
 pub mod Facts
 pub mod Due
 pub mod BodyAsks
+pub mod Pieces
 pub mod Stands
 pub mod Asking
 pub mod Choosing

@@ -12,6 +12,7 @@ use crate::due::PIECE;
 use crate::facts::{
     Arrived, Asked, Counts, Gone, Ruled, is_buffered, is_collecting, is_settled, mode_of,
 };
+use crate::lengths::Lengths;
 use crate::marks::Marks;
 use crate::ready::Ready;
 use body_hold::Hold;
@@ -37,6 +38,7 @@ pub struct Half {
     pub(crate) counts: Counts,
     pub(crate) gone: Gone,
     pub(crate) hold: Hold,
+    pub(crate) pieces: Lengths,
     pub(crate) marks: Marks,
     pub(crate) ready: Ready,
     pub(crate) head: Option<FieldList>,
@@ -110,6 +112,7 @@ impl Half {
                 ended: false,
             },
             hold,
+            pieces: Lengths::new(alloc),
             marks,
             ready: Ready::new(alloc),
             head: None,

@@ -13,6 +13,7 @@ mod due;
 mod facts;
 mod half;
 mod handing;
+mod lengths;
 mod marks;
 mod own;
 mod ready;
