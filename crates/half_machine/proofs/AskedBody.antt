@@ -66,6 +66,9 @@ read_asks w b ts e s = record { single = s.single; there = s.there; going = s.go
 pub aside_asks : (w : Course) (n g : ℕ) → BodyAsks w → BodyAsks (record w { sent = n; given = g })
 aside_asks w n g s = record { single = s.single; there = s.there; going = s.going; waits = s.waits }
 
+pub released_asks : (w : Course) → BodyAsks w → BodyAsks (record w { released = true })
+released_asks w s = record { single = s.single; there = s.there; going = s.going; waits = λ o e r. absurd (clash r) }
+
 -- The head is chosen
 
 why_chosen : (x y : Option Outgoing) (o : Outgoing) (r settled replaced : Bool) (m : BodyMode) (bare answered : Bool) → r ≡ false → is_buffered m ≡ true

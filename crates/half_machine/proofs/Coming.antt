@@ -28,6 +28,7 @@ use Rattle.half_machine.proofs.AskedBody.{read_asks}
 use Rattle.half_machine.proofs.Seen.{room_is}
 use Rattle.half_machine.proofs.AtHand.{flow_kept}
 use Rattle.half_machine.proofs.Lending.{hand_kept}
+use Rattle.half_machine.proofs.Room.{room_put}
 
 -- the message goes on
 abbrev pub read_on : List ℕ → List Field → Bool → Course → Course
@@ -244,7 +245,7 @@ read_holds p x b ts e a f s m n k o g =
     let t : Ties c d (progress p) x = s.ties in
     let r : Roomy c x b = roomy p x b s m in
     let same : is_some (replacement d w) ≡ x.rule.replaced = sym t.rule.replaced in (
-      subst (λ n. MadeWith c d (record x { hold = record x.hold { limit = n } })) (limit_same x.rule.replaced) s.made,
+      read_made x.rule.replaced,
       record {
         arrived = o;
         rule = record { modes = t.rule.modes; released = t.rule.released; stopped = t.rule.stopped; passes = t.rule.passes; replaced = t.rule.replaced; headers = t.rule.headers; body = t.rule.body };
@@ -256,6 +257,7 @@ read_holds p x b ts e a f s m n k o g =
         hold = hold_read c d (progress p) x b ts e x.rule.replaced same r.hand t;
         pieces = t.pieces;
         pieces_fit = t.pieces_fit;
+        room = room_put x.hold c w.modes.headers w.asks w.original.body b w.released x.rule.replaced t.room;
         marks = t.marks;
         head = t.head;
         fields = t.fields;
@@ -271,9 +273,9 @@ read_holds p x b ts e a f s m n k o g =
     clash : true ≡ false → ⊥
     clash e = cc
 
-    limit_same : (q : Bool) → x.hold.limit ≡ (if q then x.hold else put b x.hold).limit
-    limit_same true = refl
-    limit_same false = refl
+    read_made : (q : Bool) → MadeWith p.config p.direction (record x { hold = if q then x.hold else put b x.hold })
+    read_made true = s.made
+    read_made false = s.made
 
 -- Each call
 

@@ -178,6 +178,7 @@ handed_ties p x y s u l o r =
         hold = t.hold;
         pieces = t.pieces;
         pieces_fit = t.pieces_fit;
+        room = t.room;
         marks = t.marks;
         head = t.head;
         fields = t.fields;

@@ -54,6 +54,7 @@ sent_holds p x s m =
         hold = hold_aside x.hold p.config p.direction w (progress p).taken.body w.head (suc w.sent) w.given t.hold;
         pieces = t.pieces;
         pieces_fit = t.pieces_fit;
+        room = t.room;
         marks = t.marks;
         head = t.head;
         fields = t.fields;
@@ -98,6 +99,7 @@ given_holds p x n s m =
         hold = hold_aside x.hold p.config p.direction w (progress p).taken.body w.head w.sent (w.given + n) t.hold;
         pieces = t.pieces;
         pieces_fit = let a = t.pieces_fit in omega arith;
+        room = t.room;
         marks = t.marks;
         head = t.head;
         fields = t.fields;

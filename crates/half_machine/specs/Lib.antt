@@ -3,6 +3,7 @@ pub mod Facts
 pub mod Due
 pub mod BodyAsks
 pub mod Pieces
+pub mod Room
 pub mod Stands
 pub mod Asking
 pub mod Choosing

@@ -1,9 +1,9 @@
-use Rattle.std.proofs.Common.{refl, ap, sym, arith}
+use Rattle.std.proofs.Common.{refl, ap, sym, ◌∙◌, arith}
 use Rattle.body_hold.specs.Held.{Held}
 use Rattle.http_model.specs.declared.types.Direction.{Direction}
 use Rattle.half_machine.specs.Stands.{direction_of}
 use Rattle.half_machine.proofs.AskedBody.{fresh_asks}
-use Rattle.half_machine.proofs.Fresh.{fresh_sound, fresh_kept, fresh_unasked, fresh_hold}
+use Rattle.half_machine.proofs.Fresh.{fresh_sound, fresh_kept, fresh_unasked, fresh_hold, fresh_room}
 use Rattle.half_machine.proofs.PiecesLeft.{fresh_pieces}
 use Rattle.half_machine.proofs.half.Half.new.Goals as goal
 
@@ -21,6 +21,7 @@ returns c config f =
         rules = f.rules;
         direction = sym c.direction.ensures;
         hold = ap (λ (h : Held). h.limit) c.in_ok-hold.ensures;
+        answers = f.answer ∙ sym (ap (λ (h : Held). h.answer) c.in_ok-hold.ensures);
       };
       ties = record {
         arrived = record { head = refl; framed = refl; own = λ h e. absurd cc; whole = refl; trailers = refl; bytes = refl; bare = λ e. refl; unread = λ e. (refl, refl) };
@@ -33,6 +34,7 @@ returns c config f =
         hold = fresh_hold config d modes c.in_ok-hold.hold c.args.setup.buffer_limit c.args.setup.answer_limit c.in_ok-hold.ensures;
         pieces = fresh_pieces d modes c.new-3.result c.new-3.ensures;
         pieces_fit = omega arith;
+        room = fresh_room config modes.headers c.in_ok-hold.hold c.args.setup.buffer_limit c.args.setup.answer_limit c.in_ok-hold.ensures;
         marks = c.in_ok-marks.ensures;
         head = refl;
         fields = λ o e. absurd cc;
