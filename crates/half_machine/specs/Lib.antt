@@ -7,3 +7,4 @@ pub mod Asking
 pub mod Choosing
 pub mod Calls
 pub mod Handing
+pub mod Giving
