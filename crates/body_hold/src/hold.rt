@@ -2,7 +2,7 @@
 
 ghost use Rattle.std.specs.Prelude.{◌≡◌, ◌≤◌, ◌<◌, ◌+◌, [], length, All, Some, IfOk, slice_get};
 ghost use Rattle.body_hold.specs.Held.{hand_room, lent_room, out_room, joined, held};
-ghost use Rattle.body_hold.specs.Steps.{put, lend, backed, passed, lent_passed, dropped, new_piece};
+ghost use Rattle.body_hold.specs.Steps.{put, lend, backed, passed, lent_passed, taken, dropped, new_piece};
 
 use crate::moves::{append, piece_at, queue_of, shift};
 use pb_wire::Blob;
@@ -159,6 +159,22 @@ impl Hold {
         ensures { self.new ≡ dropped n self.old }
     {
         self.out.drop_front(n);
+    }
+
+    /// The bytes at hand, all of them.
+    pub fn hand_front(&self) -> &[u8]
+        ensures list { result.now ≡ self.now.hand }
+        ensures range { All (λ x. x < 256) self.now.hand }
+    {
+        self.hand.front()
+    }
+
+    /// The first n of them were taken.
+    pub fn hand_drop(&mut self, n: u32)
+        requires { n ≤ length self.old.hand }
+        ensures { self.new ≡ taken n self.old }
+    {
+        self.hand.drop_front(n);
     }
 
     /// How many bytes are at hand.

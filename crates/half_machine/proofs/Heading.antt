@@ -11,12 +11,14 @@ use Rattle.filter_model.specs.Config.{CourseConfig}
 use Rattle.filter_model.specs.Course.{Course, AskedPart, is_bare, is_body, is_headers, answer_to, replacement}
 use Rattle.filter_model.specs.Half.{Past, Head, called, progress, course}
 use Rattle.filter_model.specs.Sound.{Sound}
+use Rattle.half_machine.specs.Pieces.{OfPieces}
 use Rattle.half_machine.specs.Stands.{AreKept, OfHold, Ties, StandsFor, own_framing, flow}
 use Rattle.half_machine.specs.Calls.{MayHead}
 use Rattle.half_machine.specs.Choosing.{Holds}
 use Rattle.half_machine.specs.declared.half.Half.{Half}
 use Rattle.half_machine.proofs.Early.{unanswered, unreplaced_at, same_head}
 use Rattle.half_machine.proofs.AtHand.{flow_kept}
+use Rattle.half_machine.proofs.PiecesLeft.{pieces_kept}
 use Rattle.half_machine.proofs.Lending.{hand_kept}
 use Rattle.half_machine.proofs.Coming.{unasked_all}
 use Rattle.body_hold.specs.Held.{Held}
@@ -103,6 +105,8 @@ head_holds p x f n own bare s m e g =
         gone = record { framing = t.gone.framing; head = t.gone.head; trailers = t.gone.trailers; ended = t.gone.ended; early = t.gone.early };
         hold = hold_headed c d w (progress p).taken.body x.hold f n kept keeps t.hold;
         room = t.room;
+        pieces = subst (λ l. OfPieces x.pieces l (progress p).taken.body) (pieces_kept d w kept ∙ sym (pieces_kept d (headed f n w) keeps)) t.pieces;
+        pieces_fit = t.pieces_fit;
         marks = t.marks;
         head = ap Some (same_head c d (headed f n w) f headers (unanswered is_body w read.1));
         fields = λ o z. absurd (none_is_not_some (ap is_some (sym z) ∙ ap is_some read.0));

@@ -2,6 +2,7 @@ pub mod Fresh
 pub mod Seen
 pub mod Early
 pub mod AtHand
+pub mod PiecesLeft
 pub mod NextAsk
 pub mod Lending
 pub mod Room
@@ -16,3 +17,7 @@ pub mod Heading
 pub mod Settling
 pub mod Bodies
 pub mod Handed
+pub mod NextData
+pub mod GivingData
+pub mod GivingParts
+pub mod GivingBehind

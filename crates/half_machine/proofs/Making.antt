@@ -22,6 +22,7 @@ use Rattle.filter_model.specs.Half.{Progress}
 use Rattle.filter_model.proofs.CourseGrows.{none_of_kind, any_same, with_ask, zip_longer, drop_longer, passing_same, not_passing}
 use Rattle.filter_model.proofs.Sounds.{ask_sound}
 use Rattle.half_machine.specs.Marks.{mark_of, is_of_headers}
+use Rattle.half_machine.specs.Pieces.{OfPieces, pieces_by, pieces_of}
 use Rattle.half_machine.specs.Due.{streamed_due, buffered_due, partial_due, due_by_mode, due_in, body_due, mark_for, made_with, lent_by, part_of}
 use Rattle.half_machine.specs.Facts.{mode_in}
 use Rattle.ext_msgs.specs.declared.modes.BodyMode.{BodyMode}
@@ -59,6 +60,11 @@ replacement_stays d w q n = ap (replacement_at (is_bare d w.original.length)) (a
 
 piece_bytes_stay : (w : Course) (q : AskedPart) → length w.answers ≤ length w.asks → piece_bytes (with_ask q w) ≡ piece_bytes w
 piece_bytes_stay w q n = ap (λ l. length (flat_map (λ p. p) (filter_map answered_piece l))) (pairs_stay w q n)
+
+pieces_stay : (d : Direction) (w : Course) (q : AskedPart) → length w.answers ≤ length w.asks → pieces_of d (with_ask q w) ≡ pieces_of d w
+pieces_stay d w q n =
+    ap (λ r. pieces_by r (answered_pieces (with_ask q w))) (replacement_stays d w q n)
+    ∙ ap (λ l. pieces_by (replacement d w) (filter_map answered_piece l)) (pairs_stay w q n)
 
 rule_stays : (r : Ruled) (d : Direction) (w : Course) (q : AskedPart) → length w.answers ≤ length w.asks → OfAnswers r d w → OfAnswers r d (with_ask q w)
 rule_stays r d w q n s = record {
@@ -376,6 +382,8 @@ assemble c d p x a q t m k u h r e y =
       gone = record { framing = t.gone.framing; head = t.gone.head; trailers = t.gone.trailers; ended = t.gone.ended; early = t.gone.early };
       hold = h;
       room = r;
+      pieces = subst (λ l. OfPieces x.pieces l p.taken.body) (sym (pieces_stay d w q n)) t.pieces;
+      pieces_fit = fit (lent_by a);
       marks = ap (λ l. l ++ mark_for a ∷ []) t.marks ∙ ap (λ z. map mark_of (out w) ++ z ∷ []) (sym m) ∙ sym (map-append mark_of (out w) (q ∷ [])) ∙ ap (map mark_of) (sym (out_more w q n));
       head = t.head ∙ sym (head_stays c d w q n w.original.head);
       fields = t.fields;
@@ -385,6 +393,10 @@ assemble c d p x a q t m k u h r e y =
       sound = ask_sound c w q t.sound e;
     }
   where
+    fit : (o : Option ℕ) → (counted_for o x.counts).pieces ≤ 4_294_967_295
+    fit None = t.pieces_fit
+    fit (Some n) = t.pieces_fit
+
     fewer : (o : Option ℕ) {m : ℕ} → x.counts.unasked ≤ m → (counted_for o x.counts).unasked ≤ m
     fewer None e = e
     fewer (Some n) e = omega arith

@@ -50,6 +50,8 @@ sent_holds p x s m =
         gone = record { framing = t.gone.framing; head = t.gone.head; trailers = t.gone.trailers; ended = t.gone.ended; early = t.gone.early };
         hold = hold_aside x.hold p.config p.direction w (progress p).taken.body w.head (suc w.sent) w.given t.hold;
         room = t.room;
+        pieces = t.pieces;
+        pieces_fit = t.pieces_fit;
         marks = t.marks;
         head = t.head;
         fields = t.fields;
@@ -91,6 +93,8 @@ given_holds p x n s m =
         gone = record { framing = t.gone.framing; head = t.gone.head; trailers = t.gone.trailers; ended = t.gone.ended; early = t.gone.early };
         hold = hold_aside x.hold p.config p.direction w (progress p).taken.body w.head w.sent (w.given + n) t.hold;
         room = t.room;
+        pieces = t.pieces;
+        pieces_fit = let a = t.pieces_fit in omega arith;
         marks = t.marks;
         head = t.head;
         fields = t.fields;

@@ -13,6 +13,10 @@ abbrev pub is_of_body : Mark → Bool
 is_of_body (mark.Body last) = true
 is_of_body _ = false
 
+abbrev pub is_of_trailers : Mark → Bool
+is_of_trailers mark.Trailers = true
+is_of_trailers _ = false
+
 abbrev pub mark_of : AskedPart → Mark
 mark_of (Headers fields last) = mark.Headers
 mark_of (Body bytes last) = mark.Body last

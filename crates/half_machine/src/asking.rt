@@ -1,6 +1,6 @@
 //! How a half makes the asks that are due and permitted.
 
-ghost use Rattle.std.specs.Prelude.{◌≡◌};
+ghost use Rattle.std.specs.Prelude.{◌≡◌, min};
 ghost use Rattle.half_machine.specs.Choosing.{IsChosen};
 ghost use Rattle.half_machine.specs.Asking.{queued, may_ask, with_due, one_asked_in, CanMake, Tied, passes};
 
@@ -20,14 +20,17 @@ impl Half {
 
     // The body bytes that wait to be given.
     fn queued(&self) -> u64
-        ensures { result ≡ queued self.now }
+        ensures { result ≡ min (queued self.now) 18_446_744_073_709_551_615 }
     {
         if self.gone.framing.is_none() {
             return 0;
         }
-        let ready = u64::from(self.counts.waiting) + u64::from(self.hold.out_len());
+        let ready = self
+            .counts
+            .waiting
+            .saturating_add(u64::from(self.hold.out_len()));
         if self.passes() {
-            return ready + u64::from(self.hold.at_hand());
+            return ready.saturating_add(u64::from(self.hold.at_hand()));
         }
         ready
     }

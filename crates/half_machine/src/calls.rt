@@ -68,7 +68,7 @@ impl Half {
         let passed = n.saturating_sub(self.counts.pieces);
         self.counts.unasked = self.counts.unasked.saturating_sub(passed);
         self.counts.pieces = self.counts.pieces.saturating_sub(n);
-        self.counts.waiting -= n;
+        self.counts.waiting -= u64::from(n);
         self.go_on();
     }
 

@@ -59,7 +59,14 @@ fn partial_due(arrived: &Arrived, asked: &Asked, limit: u32, at_hand: u32) -> Op
     None
 }
 
-fn body_due(arrived: &Arrived, rule: &Ruled, asked: &Asked, limit: u32, at_hand: u32) -> Option<Due>
+/// The piece of the body that is due, once the headers are settled.
+pub fn body_due(
+    arrived: &Arrived,
+    rule: &Ruled,
+    asked: &Asked,
+    limit: u32,
+    at_hand: u32,
+) -> Option<Due>
     ensures { result ≡ body_due arrived.now rule.now asked.now limit at_hand }
 {
     if is_bodiless(arrived.framed) {
@@ -73,7 +80,8 @@ fn body_due(arrived: &Arrived, rule: &Ruled, asked: &Asked, limit: u32, at_hand:
     }
 }
 
-fn trailers_due(arrived: &Arrived, rule: &Ruled, asked: &Asked) -> Option<Due>
+/// The ask of the trailers, where it is due behind the body.
+pub fn trailers_due(arrived: &Arrived, rule: &Ruled, asked: &Asked) -> Option<Due>
     ensures { result ≡ trailers_due arrived.now rule.now asked.now }
 {
     if rule.modes.trailers && arrived.whole && arrived.trailers && !asked.trailers {

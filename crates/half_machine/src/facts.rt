@@ -56,7 +56,7 @@ pub struct Counts {
     /// Of answered pieces, not given.
     pub pieces: u32,
     /// Handed out, not given.
-    pub waiting: u32,
+    pub waiting: u64,
 }
 
 /// What was handed out, behind a head whose framing was chosen.

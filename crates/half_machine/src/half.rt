@@ -12,6 +12,7 @@ use crate::due::PIECE;
 use crate::facts::{
     Arrived, Asked, Counts, Gone, Ruled, is_buffered, is_collecting, is_settled, mode_of,
 };
+use crate::lengths::Lengths;
 use crate::marks::Marks;
 use body_hold::Hold;
 use ext_msgs::FieldList;
@@ -36,6 +37,7 @@ pub struct Half {
     pub(crate) counts: Counts,
     pub(crate) gone: Gone,
     pub(crate) hold: Hold,
+    pub(crate) pieces: Lengths,
     pub(crate) marks: Marks,
     pub(crate) head: Option<FieldList>,
     pub(crate) trailers: FieldList,
@@ -108,6 +110,7 @@ impl Half {
                 ended: false,
             },
             hold,
+            pieces: Lengths::new(alloc),
             marks,
             head: None,
             trailers: FieldList::new(alloc),

@@ -80,7 +80,7 @@ impl Half {
     }
 
     // A copy of the head.
-    fn head_or_none(&self) -> Result<FieldList, AllocError>
+    pub(crate) fn head_or_none(&self) -> Result<FieldList, AllocError>
         ensures { IfOk result (λ fields. fields ≡ unwrap_or self.now.head []) }
     {
         match &self.head {

@@ -2,7 +2,7 @@
 
 ghost use Rattle.std.specs.Prelude.{◌≡◌, ◌<◌, ◌≤◌, ◌++◌, ◌∷◌, [], length, take, filter, slice_index_or, IfOk};
 ghost use Rattle.std.specs.List.{list_any};
-ghost use Rattle.half_machine.specs.Marks.{is_of_headers, is_of_body};
+ghost use Rattle.half_machine.specs.Marks.{is_of_headers, is_of_body, is_of_trailers};
 
 use std::alloc::{AllocError, Global};
 use std::marker::Model;
@@ -73,6 +73,16 @@ impl Marks {
         self.items.iter().any(|mark| match mark {
             Mark::Body(_) => true,
             Mark::Headers | Mark::Trailers => false,
+        })
+    }
+
+    /// Whether one of the trailers is out.
+    pub fn has_trailers(&self) -> bool
+        ensures { result ≡ list_any is_of_trailers self.now }
+    {
+        self.items.iter().any(|mark| match mark {
+            Mark::Trailers => true,
+            Mark::Headers | Mark::Body(_) => false,
         })
     }
 

@@ -3,6 +3,7 @@ use Rattle.body_hold.specs.Held.{Held}
 use Rattle.http_model.specs.declared.types.Direction.{Direction}
 use Rattle.half_machine.specs.Stands.{direction_of}
 use Rattle.half_machine.proofs.Fresh.{fresh_sound, fresh_kept, fresh_unasked, fresh_hold, fresh_room}
+use Rattle.half_machine.proofs.PiecesLeft.{fresh_pieces}
 use Rattle.half_machine.proofs.half.Half.new.Goals as goal
 
 pub returns : goal.returns
@@ -29,10 +30,12 @@ returns c config f =
         gone = record { framing = refl; head = refl; trailers = refl; ended = refl; early = λ e. refl };
         hold = fresh_hold config d modes c.in_ok-hold.hold c.args.setup.buffer_limit c.args.setup.answer_limit c.in_ok-hold.ensures;
         room = fresh_room config modes.headers c.in_ok-hold.hold c.args.setup.buffer_limit c.args.setup.answer_limit c.in_ok-hold.ensures;
+        pieces = fresh_pieces d modes c.new-3.result c.new-3.ensures;
+        pieces_fit = omega arith;
         marks = c.in_ok-marks.ensures;
         head = refl;
         fields = λ o e. absurd cc;
-        trailers = c.new-3.ensures;
+        trailers = c.new-4.ensures;
         parts = tt;
         few = omega arith;
         sound = fresh_sound config modes;
