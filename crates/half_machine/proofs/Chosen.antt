@@ -150,9 +150,9 @@ chosen c d p x h m t n e f = record {
     early = λ z. t.gone.early n;
   };
   hold = hold_aside x.hold c d p.course p.taken.body (committed c d p.course).head p.course.sent p.course.given t.hold;
+  room = t.room;
   pieces = t.pieces;
   pieces_fit = t.pieces_fit;
-  room = t.room;
   marks = t.marks;
   head = t.head;
   fields = λ o z. t.head ∙ ap (option_map (changed_head c d p.course)) e ∙ ap (option_map (λ (o : Outgoing). o.fields)) (sym f ∙ z);

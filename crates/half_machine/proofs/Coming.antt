@@ -255,9 +255,9 @@ read_holds p x b ts e a f s m n k o g =
         counts = record { unasked = unasked_read c d (progress p) x b ts e x.rule.replaced same t; pieces = t.counts.pieces; waiting = t.counts.waiting };
         gone = record { framing = t.gone.framing; head = t.gone.head; trailers = t.gone.trailers; ended = t.gone.ended; early = t.gone.early };
         hold = hold_read c d (progress p) x b ts e x.rule.replaced same r.hand t;
+        room = room_put x.hold c w.modes.headers w.asks w.original.body b w.released x.rule.replaced t.room;
         pieces = t.pieces;
         pieces_fit = t.pieces_fit;
-        room = room_put x.hold c w.modes.headers w.asks w.original.body b w.released x.rule.replaced t.room;
         marks = t.marks;
         head = t.head;
         fields = t.fields;

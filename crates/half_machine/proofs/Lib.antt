@@ -18,3 +18,7 @@ pub mod Heading
 pub mod Settling
 pub mod Bodies
 pub mod Handed
+pub mod NextData
+pub mod GivingData
+pub mod GivingParts
+pub mod GivingBehind

@@ -378,9 +378,9 @@ assemble c d p x a q t m k u h b r e y =
       counts = u;
       gone = record { framing = t.gone.framing; head = t.gone.head; trailers = t.gone.trailers; ended = t.gone.ended; early = t.gone.early };
       hold = h;
+      room = r;
       pieces = subst (λ l. OfPieces x.pieces l p.taken.body) (sym (pieces_stay d w q n)) t.pieces;
       pieces_fit = fit (lent_by a);
-      room = r;
       marks = ap (λ l. l ++ mark_for a ∷ []) t.marks ∙ ap (λ z. map mark_of (out w) ++ z ∷ []) (sym m) ∙ sym (map-append mark_of (out w) (q ∷ [])) ∙ ap (map mark_of) (sym (out_more w q n));
       head = t.head ∙ sym (head_stays c d w q n w.original.head);
       fields = t.fields;

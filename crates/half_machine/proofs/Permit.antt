@@ -21,7 +21,7 @@ use Rattle.half_machine.proofs.Seen.{mode_is}
 use Rattle.half_machine.proofs.NextAsk.{part, next_is_due}
 use Rattle.half_machine.proofs.Making.{made_ties}
 
-marks_body : (asks : List AskedPart) → list_any is_of_body (map mark_of asks) ≡ list_any is_body asks
+pub marks_body : (asks : List AskedPart) → list_any is_of_body (map mark_of asks) ≡ list_any is_body asks
 marks_body [] = refl
 marks_body (p ∷ asks) = ap (λ b. b || list_any is_of_body (map mark_of asks)) (one p) ∙ ap (λ b. is_body p || b) (marks_body asks)
   where

@@ -1,12 +1,11 @@
 -- The pieces that wait to go out, as long as nothing is answered.
-use Rattle.std.proofs.Common.{inl, inr, refl, sym, ◌∙◌, ap, arith}
-use Rattle.std.specs.Prelude.{ℕ, ◌≡◌, ◌≤◌, Bool, true, false, List, [], ◌∷◌, ◌++◌, Some, None, length, filter_map, Option, is_some}
+use Rattle.std.proofs.Common.{inl, refl, ap, arith}
+use Rattle.std.specs.Prelude.{ℕ, ◌≡◌, false, List, [], is_some}
 use Rattle.ext_msgs.specs.declared.modes.PartModes.{PartModes}
 use Rattle.http_model.specs.declared.types.Direction.{Direction}
 use Rattle.http_model.specs.declared.types.Direction.TheVariants.{Request, Response}
-use Rattle.filter_model.specs.Course.{Course, AskedPart, answered_piece, answered_pieces, replacement}
+use Rattle.filter_model.specs.Course.{Course, answered_pieces, replacement}
 use Rattle.filter_model.specs.Account.{fresh_course}
-use Rattle.filter_model.proofs.CourseGrows.{with_ask}
 use Rattle.half_machine.specs.Pieces.{OfPieces, pieces_by, pieces_of}
 use Rattle.half_machine.proofs.AtHand.{none_of}
 

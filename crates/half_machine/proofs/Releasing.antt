@@ -242,13 +242,12 @@ assemble c d p x k h t u s l f = record {
   counts = u;
   gone = record { framing = t.gone.framing; head = t.gone.head; trailers = t.gone.trailers; ended = t.gone.ended; early = t.gone.early };
   hold = s;
+  room = record { first = t.room.first; pieces = t.room.pieces; lent = l; goes = λ r. absurd (clash r) };
   pieces = t.pieces;
   pieces_fit =
-      let a = t.pieces_fit in
-      let b : k.pieces ≡ piece_bytes p.course - p.course.given = u.pieces in
-      let e : x.counts.pieces ≡ piece_bytes p.course - p.course.given = t.counts.pieces in
-      omega arith;
-  room = record { first = t.room.first; pieces = t.room.pieces; lent = l; goes = λ r. absurd (clash r) };
+      let a : k.pieces ≡ piece_bytes p.course - p.course.given = u.pieces in
+      let b : x.counts.pieces ≡ piece_bytes p.course - p.course.given = t.counts.pieces in
+      let e = t.pieces_fit in omega arith;
   marks = t.marks;
   head = t.head;
   fields = t.fields;

@@ -1,11 +1,11 @@
 -- What is lent has room to go out.
-use Rattle.std.proofs.Common.{refl, sym, ◌∙◌, ap, arith, rules, append-nil, length-append}
+use Rattle.std.proofs.Common.{refl, sym, ◌∙◌, ap, arith, rules, append-nil, length-append, length-drop}
 use Rattle.std.proofs.lemmas.Grind.{flat_map-append}
 use Rattle.std.proofs.lemmas.List.{append_assoc, drop-append-le, drop-drop, length-take-le, take-append-drop}
 use Rattle.std.proofs.lemmas.List.Concat.{length-flat_map}
 use Rattle.std.proofs.lemmas.List.Folds.{list_any-append}
 use Rattle.std.proofs.lemmas.List.Sums.{sum_by_push}
-use Rattle.std.specs.Prelude.{ℕ, ◌≡◌, ◌+◌, ◌*◌, ◌≤◌, ◌<◌, Bool, true, false, not, ◌&&◌, ◌||◌, List, ◌∷◌, ◌++◌, Some, [], length, take, drop, zip, find, cond, flat_map, Option, is_some, option_map, if◌then◌else◌, nat_lt, nat_le}
+use Rattle.std.specs.Prelude.{ℕ, ◌≡◌, ◌+◌, ◌-◌, ◌*◌, ◌≤◌, ◌<◌, Bool, true, false, not, ◌&&◌, ◌||◌, List, ◌∷◌, ◌++◌, Some, [], length, take, drop, zip, find, cond, flat_map, Option, is_some, option_map, if◌then◌else◌, nat_lt, nat_le}
 use Rattle.std.specs.List.{list_any}
 use Rattle.ext_msgs.specs.declared.answer.Common.{Common}
 use Rattle.ext_msgs.specs.declared.modes.BodyMode.{BodyMode}
@@ -15,7 +15,7 @@ use Rattle.http_model.specs.Bytes.{is_empty}
 use Rattle.http_model.specs.Heads.{is_bodiless}
 use Rattle.http_model.specs.declared.types.Direction.{Direction}
 use Rattle.body_hold.specs.Held.{Held, joined, lent_room}
-use Rattle.body_hold.specs.Steps.{put, lend}
+use Rattle.body_hold.specs.Steps.{put, lend, dropped}
 use Rattle.filter_model.specs.Config.{CourseConfig}
 use Rattle.filter_model.specs.Course.{Course, AskedPart, bytes_in, asked_bytes, is_body, is_buffered, is_headers, next_body}
 use Rattle.filter_model.specs.Half.{Progress}
@@ -97,6 +97,17 @@ pub room_put : (h : Held) (c : CourseConfig) (headers : Bool) (asks : List Asked
     → OfRoom (if q then h else put b h) c headers asks (body ++ b) r
 room_put h c headers asks body b r true s = record { first = s.first; pieces = pieces_read asks body b s.pieces; lent = s.lent; goes = s.goes }
 room_put h c headers asks body b r false s = record { first = s.first; pieces = pieces_read asks body b s.pieces; lent = s.lent; goes = s.goes }
+
+-- Bytes that are handed out
+
+pub room_dropped : (h : Held) (c : CourseConfig) (headers : Bool) (asks : List AskedPart) (body : List ℕ) (r : Bool) (n : ℕ) → OfRoom h c headers asks body r
+    → OfRoom (dropped n h) c headers asks body r
+room_dropped h c headers asks body r n s = record {
+  first = s.first;
+  pieces = s.pieces;
+  lent = s.lent;
+  goes = λ e. let g = s.goes e in let k : length (drop n h.out) ≡ length h.out - n = length-drop n h.out in omega arith;
+}
 
 -- An ask that is due
 

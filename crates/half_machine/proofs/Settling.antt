@@ -204,9 +204,9 @@ settle_holds p x m made s y e =
         counts = record { unasked = t.counts.unasked; pieces = t.counts.pieces; waiting = t.counts.waiting };
         gone = record { framing = t.gone.framing; head = t.gone.head; trailers = t.gone.trailers; ended = t.gone.ended; early = t.gone.early };
         hold = hold_settled c d w (progress p).taken.body x.hold n w.released refl (λ r. t.gone.early (u.head r)) u kept t.hold;
+        room = record { first = headers_first w.original.head w m c refl t.sound t.room.first; pieces = t.room.pieces; lent = t.room.lent; goes = t.room.goes };
         pieces = t.pieces;
         pieces_fit = t.pieces_fit;
-        room = record { first = headers_first w.original.head w m c refl t.sound t.room.first; pieces = t.room.pieces; lent = t.room.lent; goes = t.room.goes };
         marks = t.marks;
         head = t.head ∙ sym (same_head c d w n body w.original.head);
         fields = t.fields;

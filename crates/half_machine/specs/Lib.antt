@@ -2,10 +2,11 @@ pub mod Marks
 pub mod Facts
 pub mod Due
 pub mod BodyAsks
-pub mod Pieces
 pub mod Room
+pub mod Pieces
 pub mod Stands
 pub mod Asking
 pub mod Choosing
 pub mod Calls
 pub mod Handing
+pub mod Giving

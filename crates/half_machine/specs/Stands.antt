@@ -24,8 +24,8 @@ use Rattle.filter_model.specs.Sound.{Sound}
 use Rattle.body_hold.specs.Held.{Held}
 use Rattle.half_machine.specs.BodyAsks.{BodyAsks}
 use Rattle.half_machine.specs.Marks.{mark_of}
-use Rattle.half_machine.specs.Pieces.{OfPieces, pieces_of}
 use Rattle.half_machine.specs.Room.{OfRoom}
+use Rattle.half_machine.specs.Pieces.{OfPieces, pieces_of}
 use Rattle.half_machine.specs.declared.facts.Arrived.{Arrived}
 use Rattle.half_machine.specs.declared.facts.Ruled.{Ruled}
 use Rattle.half_machine.specs.declared.facts.Asked.{Asked}
@@ -135,9 +135,9 @@ pub record Ties (c : CourseConfig) (d : Direction) (p : Progress) (x : Half) : T
   pub counts : OfCounts x.counts d p.course p.taken.body
   pub gone : OfGone x.gone p
   pub hold : OfHold x.hold c d p.course p.taken.body
+  pub room : OfRoom x.hold c p.course.modes.headers p.course.asks p.course.original.body p.course.released
   pub pieces : OfPieces x.pieces (pieces_of d p.course) p.taken.body
   pub pieces_fit : x.counts.pieces ≤ 4_294_967_295
-  pub room : OfRoom x.hold c p.course.modes.headers p.course.asks p.course.original.body p.course.released
   pub marks : x.marks ≡ map mark_of (out p.course)
   pub head : x.head ≡ option_map (changed_head c d p.course) p.course.original.head
   pub fields : (o : Outgoing) → p.course.head ≡ Some o → x.head ≡ Some o.fields

@@ -2,8 +2,8 @@
 //!
 //! A half stands for the past of its calls as `filter_model` defines it (`specs/Stands.antt`): each of its fields is
 //! what the definitions say. There are so far `new`, `settle`, `head`, `data`, `end`, `sent`, `given`, `asks_out`,
-//! `held`, `room`, `over_limit` and `next_ask`, and what follows every call: the choice of the head, and the asks
-//! that are due and permitted.
+//! `held`, `room`, `over_limit`, `next_ask` and `next_out`, and what follows every call: the choice of the head, and
+//! the asks that are due and permitted.
 #![tactic(auto)]
 
 mod asking;
@@ -11,6 +11,7 @@ mod calls;
 mod choosing;
 mod due;
 mod facts;
+mod giving;
 mod half;
 mod handing;
 mod lengths;

@@ -32,9 +32,9 @@ returns c config f =
         counts = record { unasked = sym (fresh_unasked d modes); pieces = refl; waiting = refl };
         gone = record { framing = refl; head = refl; trailers = refl; ended = refl; early = λ e. refl };
         hold = fresh_hold config d modes c.in_ok-hold.hold c.args.setup.buffer_limit c.args.setup.answer_limit c.in_ok-hold.ensures;
+        room = fresh_room config modes.headers c.in_ok-hold.hold c.args.setup.buffer_limit c.args.setup.answer_limit c.in_ok-hold.ensures;
         pieces = fresh_pieces d modes c.new-3.result c.new-3.ensures;
         pieces_fit = omega arith;
-        room = fresh_room config modes.headers c.in_ok-hold.hold c.args.setup.buffer_limit c.args.setup.answer_limit c.in_ok-hold.ensures;
         marks = c.in_ok-marks.ensures;
         head = refl;
         fields = λ o e. absurd cc;
