@@ -179,6 +179,7 @@ handed_ties p x y s u l o r =
         room = t.room;
         pieces = t.pieces;
         pieces_fit = t.pieces_fit;
+        pieces_room = t.pieces_room;
         marks = t.marks;
         head = t.head;
         fields = t.fields;

@@ -22,3 +22,5 @@ pub mod NextData
 pub mod GivingData
 pub mod GivingParts
 pub mod GivingBehind
+pub mod Joining
+pub mod Judged
