@@ -328,7 +328,7 @@ none_out p x s u = by (list_any is_trailers (out (course p))) refl
     by true e = absurd (clash (sym (any_of_drop is_trailers (course p).asks (course p).answers e) ∙ no_trailers p x s u))
     by false e = e
 
-other_trailers : (head : Option (List Field)) (n : Length) (old new : List Field) (asks : List AskedPart) → list_any is_trailers asks ≡ false → AreKept head n old asks → AreKept head n new asks
+pub other_trailers : (head : Option (List Field)) (n : Length) (old new : List Field) (asks : List AskedPart) → list_any is_trailers asks ≡ false → AreKept head n old asks → AreKept head n new asks
 other_trailers head n old new [] e k = tt
 other_trailers head n old new (Headers f l ∷ asks) e k = (k.0, other_trailers head n old new asks e k.1)
 other_trailers head n old new (Body b l ∷ asks) e k = (tt, other_trailers head n old new asks e k.1)

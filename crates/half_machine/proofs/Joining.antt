@@ -3,16 +3,16 @@ use Rattle.std.proofs.Common.{inl, inr, refl, sym, ◌∙◌, ap, arith, append-
 use Rattle.std.proofs.lemmas.Grind.{flat_map-append}
 use Rattle.std.proofs.lemmas.List.Folds.{list_any-append}
 use Rattle.std.proofs.lemmas.List.Sums.{sum_by_push}
-use Rattle.std.specs.Prelude.{ℕ, suc, ◌≡◌, ◌⊎◌, ◌+◌, Bool, true, false, not, ◌||◌, List, ◌∷◌, ◌++◌, Some, None, [], length, drop, zip, find, cond, filter_map, flat_map, sum_by, Option, is_some, option_map, unwrap_or, if◌then◌else◌}
+use Rattle.std.specs.Prelude.{ℕ, ◌≡◌, ◌⊎◌, ◌+◌, Bool, true, false, ◌||◌, List, ◌∷◌, ◌++◌, Some, None, [], length, find, cond, filter_map, flat_map, sum_by, Option, is_some, option_map, unwrap_or, if◌then◌else◌}
 use Rattle.std.specs.List.{list_any}
 use Rattle.ext_msgs.specs.declared.lists.Field.{Field}
 use Rattle.ext_msgs.specs.declared.answer.Common.{Common}
 use Rattle.http_model.specs.Heads.{is_bodiless}
 use Rattle.http_model.specs.declared.types.Direction.{Direction}
 use Rattle.filter_model.specs.Config.{CourseConfig}
-use Rattle.filter_model.specs.Course.{Course, AskedPart, Headers, Body, Trailers, Outgoing, changed_head, head_kind, under, is_buffered, is_body, is_headers, is_stopped, out, pairs, bytes_in, answered_pieces, answered_piece, answered_bytes, asked_bytes, answer_to, replaces, replacement, replacement_at, is_bare, new_piece}
+use Rattle.filter_model.specs.Course.{Course, AskedPart, Headers, Body, Trailers, Outgoing, changed_head, head_kind, under, is_buffered, is_body, is_headers, is_stopped, out, pairs, bytes_in, answered_pieces, answered_piece, answered_bytes, answer_to, replaces, replacement, replacement_at, is_bare, new_piece}
 use Rattle.filter_model.specs.Sound.{Sound, once}
-use Rattle.filter_model.proofs.CourseGrows.{with_answer, pairs_more, answer_kept, pieces_more, any_of_drop, once_out}
+use Rattle.filter_model.proofs.CourseGrows.{with_answer, pairs_more, answer_kept, pieces_more, drop_more, any_of_drop, once_out}
 use Rattle.half_machine.specs.BodyAsks.{BodyAsks}
 use Rattle.half_machine.specs.Stands.{piece_bytes}
 
@@ -82,12 +82,11 @@ unreplaced_by false (Some a) e = ap (λ b. is_some (if b then new_piece a.body e
 
 -- The pieces
 
-pub piece_of : Common → List ℕ → List ℕ
+abbrev pub piece_of : Common → List ℕ → List ℕ
 piece_of a bytes = unwrap_or (new_piece a.body) bytes
 
 pub joined_pieces : (w : Course) (a : Common) (bytes : List ℕ) (last : Bool) (more : List AskedPart) → out w ≡ Body bytes last ∷ more
     → flat_map (λ p. p) (answered_pieces (with_answer a w)) ≡ flat_map (λ p. p) (answered_pieces w) ++ piece_of a bytes
-unfolding piece_of
 joined_pieces w a bytes last more o =
     ap (flat_map (λ p. p)) (pieces_more w a (Body bytes last) more o)
     ∙ flat_map-append (λ (p : List ℕ). p) (answered_pieces w) (piece_of a bytes ∷ [])
@@ -186,3 +185,15 @@ head_waits w q more o r e b k = by w.head refl
     by : (x : Option Outgoing) → w.head ≡ x → w.head ≡ None
     by None i = i
     by (Some h) i = absurd (never (k.waits h i r b))
+
+-- behind an ask that is made once there is none of its kind
+pub once_past : (kind : AskedPart → Bool) (w : Course) (a : Common) (q : AskedPart) (more : List AskedPart) → once kind w.asks ≡ true → out w ≡ q ∷ more → kind q ≡ true
+    → list_any kind more ≡ false
+once_past kind w a q more n o e = by (list_any kind more) refl
+  where
+    by : (b : Bool) → list_any kind more ≡ b → list_any kind more ≡ false
+    by false i = i
+    by true i =
+        absurd (clash (sym (answer_there kind w a q more o e)
+        ∙ ap (λ z. is_some (option_map (λ (x : AskedPart × Common). x.1) z))
+        (once_out kind w.asks (w.answers ++ a ∷ []) n (ap (list_any kind) (drop_more w.asks w.answers q more a o) ∙ i))))

@@ -1,24 +1,21 @@
 -- A half refuses the answers that the definitions refuse.
 use Rattle.std.proofs.Common.{refl, sym, ◌∙◌, ap, subst, rules}
-use Rattle.std.specs.Prelude.{ℕ, zero, suc, ◌≡◌, Bool, true, false, not, ◌&&◌, ◌||◌, List, ◌∷◌, Some, None, [], length, drop, map, Option, is_some, option_map, unwrap_or, if◌then◌else◌, ◌==◌, nat_lt}
-use Rattle.std.specs.List.{list_any}
+use Rattle.std.specs.Prelude.{ℕ, zero, suc, ◌≡◌, Bool, true, false, not, ◌&&◌, ◌||◌, List, ◌∷◌, Some, None, [], length, drop, map, Option, option_map, unwrap_or, if◌then◌else◌, ◌==◌, nat_lt}
 use Rattle.ext_msgs.specs.declared.lists.Field.{Field}
 use Rattle.ext_msgs.specs.declared.answer.Common.{Common}
 use Rattle.ext_msgs.specs.declared.answer.HeaderMutation.{HeaderMutation}
-use Rattle.header_mutation.specs.Mutated.{mutated, Outcome}
+use Rattle.header_mutation.specs.Mutated.{mutated}
 use Rattle.header_mutation.specs.declared.rules.PartKind.TheVariants.{Trailers as TrailerPart}
-use Rattle.header_mutation.specs.declared.setup.HalfFault.{HalfFault}
 use Rattle.header_mutation.specs.declared.setup.HalfFault.TheVariants as fault
 use Rattle.http_model.specs.declared.types.Direction.{Direction}
 use Rattle.filter_model.specs.Config.{CourseConfig}
-use Rattle.filter_model.specs.Course.{Course, AskedPart, Headers, Body, Trailers, changed_head, head_after_headers, head_kind, under, is_buffered, is_body, is_trailers, is_streamed_back, is_spurious_at, out, outcome_of, outcome_at, answer_to}
+use Rattle.filter_model.specs.Course.{AskedPart, Headers, Body, Trailers, changed_head, head_after_headers, head_kind, under, is_buffered, is_body, is_trailers, is_streamed_back, is_spurious_at, out, outcome_of, outcome_at, answer_to}
 use Rattle.filter_model.specs.Cut.{OfHeaders, OfBody, OfTrailers, kind_of}
 use Rattle.filter_model.specs.Half.{Past, Progress, progress, course, kind_numbered, fault_of, refusal}
 use Rattle.half_machine.specs.Judging.{is_of_part, answered_mark, head_outcome, outcome_in, cause_in}
 use Rattle.half_machine.specs.Marks.{mark_of}
 use Rattle.half_machine.specs.Stands.{MadeWith, Ties, StandsFor, AreKept}
 use Rattle.half_machine.specs.declared.marks.Mark.{Mark}
-use Rattle.half_machine.specs.declared.marks.Mark.TheVariants as mark
 use Rattle.half_machine.specs.declared.half.Half.{Half}
 use Rattle.half_machine.proofs.Joining.{unanswered_out}
 
@@ -66,7 +63,7 @@ kept_first c d p x (Headers f l) more t o = (subst (AreKept x.head x.arrived.fra
 kept_first c d p x (Body b l) more t o = tt
 kept_first c d p x (Trailers f) more t o = (subst (AreKept x.head x.arrived.framed x.trailers) o t.parts).0
 
-ruled : (c : CourseConfig) (d : Direction) (x : Half) (head : List Field) (m : HeaderMutation) → MadeWith c d x → mutated x.rules (head_kind x.direction) head m ≡ mutated c.rules (head_kind d) head m
+pub ruled : (c : CourseConfig) (d : Direction) (x : Half) (head : List Field) (m : HeaderMutation) → MadeWith c d x → mutated x.rules (head_kind x.direction) head m ≡ mutated c.rules (head_kind d) head m
 ruled c d x head m s = ap (λ r. mutated r (head_kind x.direction) head m) (sym s.rules) ∙ ap (λ q. mutated c.rules (head_kind q) head m) (sym s.direction)
 
 pub outcome_is : (c : CourseConfig) (d : Direction) (p : Progress) (x : Half) (q : AskedPart) (more : List AskedPart) (m : HeaderMutation) → MadeWith c d x → Ties c d p x → out p.course ≡ q ∷ more

@@ -4,7 +4,7 @@ use Rattle.std.proofs.lemmas.List.{map-append, take-append-le, length-take-le, d
 use Rattle.std.proofs.lemmas.List.Elements.{filter-append}
 use Rattle.std.proofs.lemmas.List.Folds.{list_any-append}
 use Rattle.std.proofs.lemmas.List.Sums.{sum_by_push}
-use Rattle.std.specs.Prelude.{ℕ, ◌≡◌, ◌⊎◌, ◌+◌, ◌-◌, ◌*◌, ◌≤◌, Bool, true, false, not, ◌||◌, List, ◌∷◌, ◌++◌, Some, None, [], length, take, drop, map, filter, filter_map, flat_map, find, Option, is_some, option_map, unwrap_or, if◌then◌else◌, nat_le, nat_lt, ◌==◌, ◌&&◌}
+use Rattle.std.specs.Prelude.{ℕ, ◌≡◌, ◌⊎◌, ◌+◌, ◌-◌, ◌*◌, ◌≤◌, Bool, true, false, not, ◌||◌, List, ◌∷◌, ◌++◌, Some, None, [], length, take, drop, map, filter, filter_map, flat_map, Option, is_some, option_map, unwrap_or, if◌then◌else◌, nat_le, nat_lt, ◌==◌, ◌&&◌}
 use Rattle.std.specs.List.{list_any}
 use Rattle.ext_msgs.specs.declared.lists.Field.{Field}
 use Rattle.ext_msgs.specs.declared.answer.Common.{Common}
@@ -44,7 +44,7 @@ use Rattle.half_machine.specs.BodyAsks.{BodyAsks}
 use Rattle.half_machine.proofs.AskedBody.{pairs_stay, answer_stays, other_asks, piece_asks}
 use Rattle.half_machine.proofs.AtHand.{unstopped_keeps}
 use Rattle.half_machine.proofs.NextAsk.{part, body_is_due, next_is_due}
-use Rattle.half_machine.proofs.Room.{pieces_lent, joined_more, room_same, room_lent}
+use Rattle.half_machine.proofs.Room.{pieces_lent, room_same, room_lent}
 use Rattle.half_machine.proofs.Lending.{LendsFrom, lends_from, going_on, unasked_kept, left_kept, hand_kept}
 
 -- What an ask leaves as it was

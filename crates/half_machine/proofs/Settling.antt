@@ -1,6 +1,6 @@
 -- A half that got other modes stands for the course that has them: nothing of the body was asked.
 use Rattle.std.proofs.Common.{inl, inr, refl, sym, ◌∙◌, ap, subst, arith}
-use Rattle.std.specs.Prelude.{ℕ, ◌≡◌, ◌⊎◌, ◌+◌, ◌-◌, ◌≤◌, Bool, true, false, List, ◌∷◌, ◌++◌, Some, None, [], length, drop, map, filter_map, zip, find, flat_map, Option, is_some, option_map, if◌then◌else◌}
+use Rattle.std.specs.Prelude.{ℕ, ◌≡◌, ◌⊎◌, ◌+◌, ◌-◌, ◌≤◌, Bool, true, false, List, ◌++◌, Some, None, [], length, drop, map, zip, find, flat_map, Option, is_some, option_map, if◌then◌else◌}
 use Rattle.std.specs.List.{list_any}
 use Rattle.ext_msgs.specs.declared.lists.Field.{Field}
 use Rattle.ext_msgs.specs.declared.answer.Common.{Common}
@@ -9,7 +9,7 @@ use Rattle.http_model.specs.Bytes.{is_empty}
 use Rattle.http_model.specs.declared.types.Direction.{Direction}
 use Rattle.body_hold.specs.Held.{Held}
 use Rattle.filter_model.specs.Config.{CourseConfig}
-use Rattle.filter_model.specs.Course.{Course, AskedPart, Headers, Body, Trailers, Outgoing, changed_head, head_kind, under, is_buffered, is_bare, is_body, is_headers, is_passing, passing_at, is_stopped, mode, out, pairs, bytes_in, asked_bytes, answered_bytes, answered_pieces, answered_piece, answer_to, replacement, replacement_at}
+use Rattle.filter_model.specs.Course.{Course, AskedPart, Outgoing, changed_head, head_kind, under, is_buffered, is_bare, is_body, is_headers, is_passing, passing_at, is_stopped, mode, out, pairs, bytes_in, asked_bytes, answered_bytes, answered_pieces, answer_to, replacement, replacement_at}
 use Rattle.filter_model.specs.Half.{Past, Settle, called, settled_modes, progress, course}
 use Rattle.filter_model.specs.Sound.{Sound}
 use Rattle.filter_model.proofs.CourseGrows.{none_of_kind, once_out, no_bytes}

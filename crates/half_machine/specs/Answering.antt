@@ -1,11 +1,11 @@
 -- What an answer makes of a half.
-use Rattle.std.specs.Prelude.{ℕ, ◌+◌, ◌≤◌, ◌<◌, Bool, true, false, not, ◌&&◌, ◌||◌, List, [], ◌∷◌, ◌++◌, length, drop, Option, is_some, unwrap_or, if◌then◌else◌, nat_le}
+use Rattle.std.specs.Prelude.{ℕ, ◌+◌, ◌≤◌, ◌<◌, Bool, true, false, not, ◌&&◌, ◌||◌, List, [], ◌∷◌, ◌++◌, length, drop, is_some, unwrap_or, if◌then◌else◌, nat_le}
 use Rattle.body_hold.specs.Held.{out_room}
 use Rattle.body_hold.specs.Steps.{hand_replaced, backed, new_piece as piece_back}
 use Rattle.body_hold.specs.declared.hold.Change.{Change}
 use Rattle.body_hold.specs.declared.hold.Change.TheVariants.{Keep, Replace, Clear as Drop}
 use Rattle.ext_msgs.specs.declared.answer.BodyChange.{BodyChange}
-use Rattle.ext_msgs.specs.declared.answer.BodyChange.TheVariants.{Absent, Bytes, Clear, Streamed}
+use Rattle.ext_msgs.specs.declared.answer.BodyChange.TheVariants.{Bytes, Clear, Streamed}
 use Rattle.ext_msgs.specs.declared.answer.Common.{Common}
 use Rattle.ext_msgs.specs.declared.ask.Ask.{Ask}
 use Rattle.filter_model.specs.Answers.{ask_of}
@@ -129,4 +129,4 @@ change_bytes _ = []
 
 -- the bytes of its body change fit
 pub record MayAnswer (p : Past) (a : Common) : Type 0 where
-  pub fits : length (change_bytes a.body) ≤ 2_097_152
+  pub fits : length (change_bytes a.body) ≤ p.config.answer_limit
