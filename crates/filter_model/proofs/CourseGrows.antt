@@ -219,7 +219,7 @@ find_last k (x ∷ xs) q e = ap (λ o. cond (k x) (Some x) o) (find_last k xs q 
 pub pairs_more : (w : Course) (a : Common) (p : AskedPart) (more : List AskedPart) → out w ≡ p ∷ more → pairs (with_answer a w) ≡ pairs w ++ (p, a) ∷ []
 pairs_more w a p more o = zip_more w.asks w.answers p more a o
 
-answer_kept : (kind : AskedPart → Bool) (w : Course) (a : Common) (p : AskedPart) (more : List AskedPart) → out w ≡ p ∷ more → kind p ≡ false
+pub answer_kept : (kind : AskedPart → Bool) (w : Course) (a : Common) (p : AskedPart) (more : List AskedPart) → out w ≡ p ∷ more → kind p ≡ false
     → answer_to kind (with_answer a w) ≡ answer_to kind w
 answer_kept kind w a p more o e =
     ap (λ l. option_map (λ (q : AskedPart × Common). q.1) (find (λ (q : AskedPart × Common). kind q.0) l)) (pairs_more w a p more o)
@@ -250,7 +250,7 @@ pub or_second : (x y : Bool) → (x || y) ≡ false → y ≡ false
 or_second true y e = absurd cc
 or_second false y e = e
 
-passing_kept : (w : Course) (a : Common) (p : AskedPart) (more : List AskedPart) → w.released ≡ false → out w ≡ p ∷ more → is_headers p ≡ false
+pub passing_kept : (w : Course) (a : Common) (p : AskedPart) (more : List AskedPart) → w.released ≡ false → out w ≡ p ∷ more → is_headers p ≡ false
     → is_passing w ≡ true → is_passing (with_answer a w) ≡ true
 passing_kept w a p more r o e t =
     let none : list_any is_body (p ∷ more) ≡ false = ap (list_any is_body) (sym o) ∙ no_body_out w.released (list_any is_body (out w)) (is_stopped w) (mode w) (list_any is_body w.asks) r t in
@@ -274,7 +274,7 @@ no_piece (Headers fields last) a e = (refl, refl)
 no_piece (Body bytes last) a e = absurd cc
 no_piece (Trailers fields) a e = (refl, refl)
 
-pieces_more : (w : Course) (a : Common) (p : AskedPart) (more : List AskedPart) → out w ≡ p ∷ more
+pub pieces_more : (w : Course) (a : Common) (p : AskedPart) (more : List AskedPart) → out w ≡ p ∷ more
     → answered_pieces (with_answer a w) ≡ answered_pieces w ++ filter_map answered_piece ((p, a) ∷ [])
 pieces_more w a p more o = ap (filter_map answered_piece) (pairs_more w a p more o) ∙ filter_map-append answered_piece (pairs w) ((p, a) ∷ [])
 

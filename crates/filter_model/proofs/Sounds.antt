@@ -198,7 +198,7 @@ commit_sound c d w s = record {
 longer_counts : {A : Type 0} (n : ℕ) (xs : List A) (x : A) → n ≤ length xs → n ≤ length (xs ++ x ∷ [])
 longer_counts n xs x e = let l = length-append xs (x ∷ []) in omega arith
 
-once_more : (kind : AskedPart → Bool) (asks : List AskedPart) (x : AskedPart) → kind x ≡ false → once kind asks ≡ true → once kind (asks ++ x ∷ []) ≡ true
+pub once_more : (kind : AskedPart → Bool) (asks : List AskedPart) (x : AskedPart) → kind x ≡ false → once kind asks ≡ true → once kind (asks ++ x ∷ []) ≡ true
 once_more kind [] x e f = ap (λ b. if b then true else true) e
 once_more kind (p ∷ asks) x e f =
     ap (λ b. if kind p then not b else once kind (asks ++ x ∷ [])) (any_same kind asks x e)
@@ -208,7 +208,7 @@ once_more kind (p ∷ asks) x e f =
     by true k o o' g f = f
     by false k o o' g f = g f
 
-once_new : (kind : AskedPart → Bool) (asks : List AskedPart) (x : AskedPart) → list_any kind asks ≡ false → once kind (asks ++ x ∷ []) ≡ true
+pub once_new : (kind : AskedPart → Bool) (asks : List AskedPart) (x : AskedPart) → list_any kind asks ≡ false → once kind (asks ++ x ∷ []) ≡ true
 once_new kind [] x e = by (kind x)
   where
     by : (b : Bool) → (if b then true else true) ≡ true

@@ -20,6 +20,7 @@ use Rattle.half_machine.specs.declared.due.Due.TheVariants as due
 use Rattle.body_hold.specs.Held.{Held}
 use Rattle.half_machine.specs.declared.facts.Ruled.{Ruled}
 use Rattle.half_machine.specs.declared.half.Half.{Half}
+use Rattle.half_machine.proofs.AskedBody.{chosen_asks}
 use Rattle.half_machine.proofs.Seen.{mode_is, settled_is}
 use Rattle.half_machine.proofs.Permit.{left_over, one_asked_ties}
 
@@ -137,7 +138,9 @@ unfolding committed
 chosen c d p x h m t n e f = record {
   arrived = t.arrived;
   rule = rule_aside x.rule d p.course (committed c d p.course).head p.course.sent p.course.given t.rule;
-  asked = record { any = t.asked.any; body = t.asked.body; last = t.asked.last; trailers = t.asked.trailers; unsent = t.asked.unsent; unhanded = t.asked.unhanded; order = t.asked.order; answered = t.asked.answered };
+  asked = record { any = t.asked.any; body = t.asked.body; last = t.asked.last; trailers = t.asked.trailers; unsent = t.asked.unsent; unhanded = t.asked.unhanded; order = t.asked.order };
+  ready = t.ready;
+  body_asks = chosen_asks c d p.course t.body_asks;
   counts = record { unasked = t.counts.unasked; pieces = t.counts.pieces; waiting = t.counts.waiting };
   gone = record {
     framing = ap Some (framing_is c d p x h m t n e) ∙ ap (option_map (λ (o : Outgoing). o.framing)) (sym f);

@@ -24,6 +24,7 @@ use Rattle.half_machine.specs.Calls.{MayBytes, CanTake, bytes_more, unasked_more
 use Rattle.half_machine.specs.Choosing.{Holds}
 use Rattle.half_machine.specs.declared.facts.Arrived.{Arrived}
 use Rattle.half_machine.specs.declared.half.Half.{Half}
+use Rattle.half_machine.proofs.AskedBody.{read_asks}
 use Rattle.half_machine.proofs.Seen.{room_is}
 use Rattle.half_machine.proofs.AtHand.{flow_kept}
 use Rattle.half_machine.proofs.Lending.{hand_kept}
@@ -248,7 +249,9 @@ read_holds p x b ts e a f s m n k o g =
       record {
         arrived = o;
         rule = record { modes = t.rule.modes; released = t.rule.released; stopped = t.rule.stopped; passes = t.rule.passes; replaced = t.rule.replaced; headers = t.rule.headers; body = t.rule.body };
-        asked = record { any = t.asked.any; body = t.asked.body; last = t.asked.last; trailers = t.asked.trailers; unsent = t.asked.unsent; unhanded = t.asked.unhanded; order = t.asked.order; answered = t.asked.answered };
+        asked = record { any = t.asked.any; body = t.asked.body; last = t.asked.last; trailers = t.asked.trailers; unsent = t.asked.unsent; unhanded = t.asked.unhanded; order = t.asked.order };
+        ready = t.ready;
+        body_asks = read_asks w b ts e t.body_asks;
         counts = record { unasked = unasked_read c d (progress p) x b ts e x.rule.replaced same t; pieces = t.counts.pieces; waiting = t.counts.waiting };
         gone = record { framing = t.gone.framing; head = t.gone.head; trailers = t.gone.trailers; ended = t.gone.ended; early = t.gone.early };
         hold = hold_read c d (progress p) x b ts e x.rule.replaced same r.hand t;

@@ -54,7 +54,7 @@ fresh_empty c d modes limit answer = record {
   there = omega arith;
   idle = λ a e. refl;
   hand_fits = omega arith;
-  lent_fits = λ e. omega arith;
+  lent_fits = λ e. tt;
 }
 
 pub fresh_hold : (c : CourseConfig) (d : Direction) (modes : PartModes) (h : Held) (limit answer : ℕ)

@@ -263,6 +263,8 @@ behind_stands p x fields b s = by b
         arrived = s.ties.arrived;
         rule = s.ties.rule;
         asked = s.ties.asked;
+        ready = s.ties.ready;
+        body_asks = s.ties.body_asks;
         counts = s.ties.counts;
         gone = record { framing = s.ties.gone.framing; head = s.ties.gone.head; trailers = refl; ended = s.ties.gone.ended; early = s.ties.gone.early };
         hold = s.ties.hold;
@@ -284,6 +286,8 @@ behind_stands p x fields b s = by b
         arrived = s.ties.arrived;
         rule = s.ties.rule;
         asked = s.ties.asked;
+        ready = s.ties.ready;
+        body_asks = s.ties.body_asks;
         counts = s.ties.counts;
         gone = record { framing = s.ties.gone.framing; head = s.ties.gone.head; trailers = s.ties.gone.trailers; ended = refl; early = s.ties.gone.early };
         hold = s.ties.hold;

@@ -326,6 +326,8 @@ out_ties c d p x o max n m t h e y u = record {
   arrived = t.arrived;
   rule = t.rule;
   asked = t.asked;
+  ready = t.ready;
+  body_asks = t.body_asks;
   counts = record { unasked = t.counts.unasked; pieces = t.counts.pieces; waiting = let a = t.counts.waiting in let b = waiting_fits c d p x n m t y u fits in omega arith };
   gone = record { framing = t.gone.framing; head = t.gone.head; trailers = t.gone.trailers; ended = t.gone.ended; early = λ z. absurd (no_head (sym z ∙ h)) };
   hold = hold_out c d p x n t within fits;
@@ -410,6 +412,8 @@ hand_ties c d p x o max n m t h f z q e y u = record {
   arrived = t.arrived;
   rule = t.rule;
   asked = t.asked;
+  ready = t.ready;
+  body_asks = t.body_asks;
   counts = record { unasked = t.counts.unasked; pieces = t.counts.pieces; waiting = let a = t.counts.waiting in let b = waiting_fits c d p x n m t y u fits in omega arith };
   gone = record { framing = t.gone.framing; head = t.gone.head; trailers = t.gone.trailers; ended = t.gone.ended; early = λ z. absurd (no_head (sym z ∙ h)) };
   hold = hold_hand c d p x n t z q y within fits;

@@ -94,6 +94,8 @@ head_stands p x fields framing s =
         arrived = t.arrived;
         rule = t.rule;
         asked = t.asked;
+        ready = t.ready;
+        body_asks = t.body_asks;
         counts = t.counts;
         gone = record { framing = t.gone.framing; head = refl; trailers = t.gone.trailers; ended = t.gone.ended; early = t.gone.early };
         hold = t.hold;

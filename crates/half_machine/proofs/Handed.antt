@@ -1,7 +1,8 @@
 -- The ask that a half hands out is the next of those made.
 use Rattle.std.proofs.Common.{refl, sym, ◌∙◌, ap, arith, length-drop}
-use Rattle.std.proofs.lemmas.List.{length-map}
-use Rattle.std.specs.Prelude.{ℕ, suc, zero, ◌≡◌, ◌+◌, ◌-◌, ◌<◌, Bool, List, ◌∷◌, Some, [], length, take, drop, map, filter, Option, option_map, unwrap_or, slice_get, slice_index_or}
+use Rattle.std.proofs.lemmas.List.{drop_all, length-map, length-take}
+use Rattle.std.specs.Prelude.{ℕ, suc, zero, ◌≡◌, ◌+◌, ◌-◌, ◌<◌, ◌≤◌, min, Bool, List, ◌∷◌, Some, None, [], length, take, drop, map, filter, Option, option_map, unwrap_or, slice_get, slice_index_or}
+use Rattle.ext_msgs.specs.declared.ask.Ask.{Ask}
 use Rattle.ext_msgs.specs.declared.lists.Field.{Field}
 use Rattle.http_model.specs.Heads.{is_bodiless}
 use Rattle.http_model.specs.declared.types.Length.{Length}
@@ -9,7 +10,7 @@ use Rattle.filter_model.specs.Answers.{ask_of}
 use Rattle.filter_model.specs.Course.{AskedPart, Headers, Body, Trailers, bytes_in, is_body, out}
 use Rattle.filter_model.specs.Half.{Past, Asked, after_step, progress, course, next_handed, half_rules}
 use Rattle.half_machine.specs.Marks.{mark_of, is_of_body}
-use Rattle.half_machine.specs.Stands.{AreKept, Ties, StandsFor}
+use Rattle.half_machine.specs.Stands.{AreKept, Ties, StandsFor, answered_first}
 use Rattle.half_machine.specs.Handing.{part_from, part_at, IsThere}
 use Rattle.half_machine.specs.declared.marks.Mark.{Mark}
 use Rattle.half_machine.specs.declared.marks.Mark.TheVariants as mark
@@ -69,6 +70,24 @@ count_is (Headers f l ∷ asks) (suc i) = count_is asks i
 count_is (Body b l ∷ asks) (suc i) = ap suc (count_is asks i)
 count_is (Trailers f ∷ asks) (suc i) = count_is asks i
 
+-- Where none waits that was answered, all answered ones were handed out
+answered_handed : (p : Past) (x : Half) → StandsFor p x → x.ready ≡ [] → length (course p).answers ≤ (progress p).handed
+answered_handed p x s r =
+    let l : List AskedPart = take (length (course p).answers) (course p).asks in
+    let a : length (drop (progress p).handed l) ≡ 0 = sym (length-map (drop (progress p).handed l) (ask_of p.direction)) ∙ ap length (sym s.ties.ready ∙ r) in
+    let b : length (drop (progress p).handed l) ≡ length l - (progress p).handed = length-drop (progress p).handed l in
+    let k : length l ≡ min (length (course p).answers) (length (course p).asks) = length-take (length (course p).answers) (course p).asks in
+    let n = s.ties.sound.counts in
+    omega arith
+
+pub unhanded_out : (p : Past) (x : Half) → StandsFor p x → x.ready ≡ [] → x.asked.unhanded ≤ length x.marks
+unhanded_out p x s r =
+    let a = s.ties.asked.unhanded in
+    let b = answered_handed p x s r in
+    let l : length x.marks ≡ length (course p).asks - length (course p).answers =
+    ap length s.ties.marks ∙ length-map (out (course p)) mark_of ∙ length-drop (length (course p).answers) (course p).asks in
+    omega arith
+
 -- The ask at a place among those that are out
 
 pub record Handing (p : Past) (x : Half) (i k : ℕ) (m : Mark) : Type 0 where
@@ -76,9 +95,9 @@ pub record Handing (p : Past) (x : Half) (i k : ℕ) (m : Mark) : Type 0 where
   pub there : IsThere x m k
   pub next : next_handed p ≡ Some (ask_of x.direction (part_at x m k))
 
-pub handing : (p : Past) (x : Half) (i k : ℕ) (m : Mark) → StandsFor p x → 0 < x.asked.unhanded → i ≡ length x.marks - x.asked.unhanded → m ≡ slice_index_or x.marks i m
+pub handing : (p : Past) (x : Half) (i k : ℕ) (m : Mark) → StandsFor p x → x.ready ≡ [] → 0 < x.asked.unhanded → i ≡ length x.marks - x.asked.unhanded → m ≡ slice_index_or x.marks i m
     → k ≡ length (filter is_of_body (take i x.marks)) → Handing p x i k m
-handing p x i k m s u e f g = record {
+handing p x i k m s r u e f g = record {
   within = within;
   there = there m marked;
   next =
@@ -93,14 +112,14 @@ handing p x i k m s u e f g = record {
     within : i < length x.marks
     within =
         let a = s.ties.asked.unhanded in
-        let b = s.ties.asked.answered in
+        let b = answered_handed p x s r in
         let l = count in
         omega arith
 
     place : (progress p).handed ≡ length (course p).answers + i
     place =
         let a = s.ties.asked.unhanded in
-        let b = s.ties.asked.answered in
+        let b = answered_handed p x s r in
         let n = s.ties.sound.counts in
         let l = count in
         omega arith
@@ -126,20 +145,34 @@ handing p x i k m s u e f g = record {
         omega arith
     there mark.Trailers e = tt
 
+pub none_unhanded : (p : Past) (x : Half) → StandsFor p x → x.asked.unhanded ≡ 0 → None ≡ next_handed p
+none_unhanded p x s u =
+    let a = s.ties.asked.unhanded in
+    let past : length (course p).asks ≤ (progress p).handed = omega arith in
+    ap (option_map (ask_of p.direction)) (sym (get_past (course p).asks (progress p).handed past))
+  where
+    get_past : {A : Type 0} (xs : List A) (i : ℕ) → length xs ≤ i → slice_get xs i ≡ None
+    get_past [] i h = refl
+    get_past (x ∷ xs) zero h = absurd (omega arith)
+    get_past (x ∷ xs) (suc i) h = get_past xs i (omega arith)
+
 -- One ask more was handed out
-pub handed_stands : (p : Past) (x : Half) → StandsFor p x → 0 < x.asked.unhanded → StandsFor (after_step Asked p) (record x { asked = record x.asked { unhanded = x.asked.unhanded - 1 } })
+
+handed_ties : (p : Past) (x : Half) (y : List Ask) → StandsFor p x → 0 < x.asked.unhanded → (progress p).handed < length (course p).asks → (course p).sent ≤ (progress p).handed
+    → y ≡ answered_first p.direction (course p) (suc (progress p).handed)
+    → StandsFor (after_step Asked p) (record x { asked = record x.asked { unhanded = x.asked.unhanded - 1 }; ready = y })
 unfolding half_rules
-handed_stands p x s u =
+handed_ties p x y s u l o r =
     let t : Ties p.config p.direction (progress p) x = s.ties in
     let i = t.asked.unhanded in
-    let o = t.asked.order in
-    let a = t.asked.answered in
     record {
       made = s.made;
       ties = record {
         arrived = t.arrived;
         rule = t.rule;
-        asked = record { any = t.asked.any; body = t.asked.body; last = t.asked.last; trailers = t.asked.trailers; unsent = t.asked.unsent; unhanded = omega arith; order = omega arith; answered = omega arith };
+        asked = record { any = t.asked.any; body = t.asked.body; last = t.asked.last; trailers = t.asked.trailers; unsent = t.asked.unsent; unhanded = omega arith; order = omega arith };
+        ready = r;
+        body_asks = t.body_asks;
         counts = t.counts;
         gone = record { framing = t.gone.framing; head = t.gone.head; trailers = t.gone.trailers; ended = t.gone.ended; early = t.gone.early };
         hold = t.hold;
@@ -155,3 +188,59 @@ handed_stands p x s u =
         sound = t.sound;
       };
     }
+
+-- of those that are out
+pub handed_stands : (p : Past) (x : Half) (y : List Ask) → StandsFor p x → x.ready ≡ [] → y ≡ [] → 0 < x.asked.unhanded
+    → StandsFor (after_step Asked p) (record x { asked = record x.asked { unhanded = x.asked.unhanded - 1 }; ready = y })
+handed_stands p x y s r e u =
+    let i = s.ties.asked.unhanded in
+    handed_ties p x y s u (omega arith) s.ties.asked.order (e ∙ ap (map (ask_of p.direction)) (sym (drop_all (suc (progress p).handed) (take (length (course p).answers) (course p).asks) few)))
+  where
+    few : length (take (length (course p).answers) (course p).asks) ≤ suc (progress p).handed
+    few =
+        let a = answered_handed p x s r in
+        let b : length (take (length (course p).answers) (course p).asks) ≡ min (length (course p).answers) (length (course p).asks) = length-take (length (course p).answers) (course p).asks in
+        omega arith
+
+-- of those that were answered
+
+first_of : {A : Type 0} (xs : List A) (n k : ℕ) (q : A) (more : List A) → drop k (take n xs) ≡ q ∷ more → (slice_get xs k ≡ Some q) × (drop (suc k) (take n xs) ≡ more)
+first_of xs zero zero q more e = absurd cc
+first_of xs zero (suc k) q more e = absurd cc
+first_of [] (suc n) zero q more e = absurd cc
+first_of [] (suc n) (suc k) q more e = absurd cc
+first_of (x ∷ xs) (suc n) zero q more e = (ap (λ l. elim l [ [] ↦ Some x | z ∷ zs ↦ Some z ]) e, ap (λ l. elim l [ [] ↦ take n xs | z ∷ zs ↦ zs ]) e)
+first_of (x ∷ xs) (suc n) (suc k) q more e = first_of xs n k q more e
+
+-- the first of them is the next ask
+pub record Popped (p : Past) (x : Half) (a : Ask) (rest : List Ask) : Type 0 where
+  pub next : next_handed p ≡ Some a
+  pub ready : rest ≡ answered_first p.direction (course p) (suc (progress p).handed)
+  pub unhanded : (progress p).handed < length (course p).asks
+
+within_length : {A : Type 0} (xs : List A) (i : ℕ) (q : A) → slice_get xs i ≡ Some q → i < length xs
+within_length [] i q e = absurd cc
+within_length (x ∷ xs) zero q e = omega arith
+within_length (x ∷ xs) (suc i) q e = let k = within_length xs i q e in omega arith
+
+pub popped : (p : Past) (x : Half) (a : Ask) (rest : List Ask) → StandsFor p x → x.ready ≡ a ∷ rest → Popped p x a rest
+popped p x a rest s e = by (drop (progress p).handed (take (length (course p).answers) (course p).asks)) refl (sym s.ties.ready ∙ e)
+  where
+    by : (l : List AskedPart) → drop (progress p).handed (take (length (course p).answers) (course p).asks) ≡ l → map (ask_of p.direction) l ≡ a ∷ rest → Popped p x a rest
+    by [] i f = absurd cc
+    by (q ∷ more) i f =
+        let k = first_of (course p).asks (length (course p).answers) (progress p).handed q more i in
+        record {
+          next = ap (option_map (ask_of p.direction)) k.0 ∙ ap (λ l. elim l [ [] ↦ Some a | z ∷ zs ↦ Some z ]) f;
+          ready = ap (λ l. elim l [ [] ↦ rest | z ∷ zs ↦ zs ]) (sym f) ∙ ap (map (ask_of p.direction)) (sym k.1);
+          unhanded = within_length (course p).asks (progress p).handed q k.0;
+        }
+
+pub popped_some : (p : Past) (x : Half) (a : Ask) (rest : List Ask) → StandsFor p x → x.ready ≡ a ∷ rest → 0 < x.asked.unhanded
+popped_some p x a rest s e = let k = (popped p x a rest s e).unhanded in let i = s.ties.asked.unhanded in omega arith
+
+pub popped_stands : (p : Past) (x : Half) (a : Ask) (rest : List Ask) → StandsFor p x → x.ready ≡ a ∷ rest
+    → StandsFor (after_step Asked p) (record x { asked = record x.asked { unhanded = x.asked.unhanded - 1 }; ready = rest })
+popped_stands p x a rest s e =
+    let k = popped p x a rest s e in
+    handed_ties p x rest s (popped_some p x a rest s e) k.unhanded s.ties.asked.order k.ready

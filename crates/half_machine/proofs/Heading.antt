@@ -16,6 +16,7 @@ use Rattle.half_machine.specs.Stands.{AreKept, OfHold, Ties, StandsFor, own_fram
 use Rattle.half_machine.specs.Calls.{MayHead}
 use Rattle.half_machine.specs.Choosing.{Holds}
 use Rattle.half_machine.specs.declared.half.Half.{Half}
+use Rattle.half_machine.proofs.AskedBody.{headed_asks}
 use Rattle.half_machine.proofs.Early.{unanswered, unreplaced_at, same_head}
 use Rattle.half_machine.proofs.AtHand.{flow_kept}
 use Rattle.half_machine.proofs.PiecesLeft.{pieces_kept}
@@ -100,7 +101,9 @@ head_holds p x f n own bare s m e g =
           headers = t.rule.headers;
           body = t.rule.body;
         };
-        asked = record { any = t.asked.any; body = t.asked.body; last = t.asked.last; trailers = t.asked.trailers; unsent = t.asked.unsent; unhanded = t.asked.unhanded; order = t.asked.order; answered = t.asked.answered };
+        asked = record { any = t.asked.any; body = t.asked.body; last = t.asked.last; trailers = t.asked.trailers; unsent = t.asked.unsent; unhanded = t.asked.unhanded; order = t.asked.order };
+        ready = t.ready;
+        body_asks = headed_asks w f n read.0 read.1;
         counts = record { unasked = t.counts.unasked ∙ unasked_all d w kept ∙ sym (unasked_all d (headed f n w) keeps); pieces = t.counts.pieces; waiting = t.counts.waiting };
         gone = record { framing = t.gone.framing; head = t.gone.head; trailers = t.gone.trailers; ended = t.gone.ended; early = t.gone.early };
         hold = hold_headed c d w (progress p).taken.body x.hold f n kept keeps t.hold;

@@ -1,7 +1,7 @@
 -- An ask that is due can be made.
-use Rattle.std.proofs.Common.{inl, inr, refl, sym, ◌∙◌, ap, arith, rules, length-drop}
+use Rattle.std.proofs.Common.{inl, inr, refl, sym, ◌∙◌, ap, arith, rules, length-append, length-drop}
 use Rattle.std.proofs.lemmas.List.{length-map}
-use Rattle.std.specs.Prelude.{ℕ, ◌≡◌, ◌⊎◌, ◌+◌, ◌-◌, ◌*◌, ◌≤◌, ◌<◌, Bool, true, false, not, ◌&&◌, ◌||◌, List, ◌∷◌, Some, None, [], length, drop, map, filter, cond, Option, is_some, if◌then◌else◌, ◌==◌, nat_lt, nat_le}
+use Rattle.std.specs.Prelude.{ℕ, ◌≡◌, ◌⊎◌, ◌+◌, ◌-◌, ◌*◌, ◌≤◌, ◌<◌, Bool, true, false, not, ◌&&◌, ◌||◌, List, ◌∷◌, ◌++◌, Some, None, [], length, drop, map, filter, cond, Option, is_some, if◌then◌else◌, ◌==◌, nat_lt, nat_le}
 use Rattle.std.specs.List.{list_any}
 use Rattle.ext_msgs.specs.declared.modes.PartModes.{PartModes}
 use Rattle.ext_msgs.specs.declared.modes.BodyMode.{BodyMode}
@@ -16,7 +16,7 @@ use Rattle.filter_model.proofs.CourseGrows.{any_of_drop}
 use Rattle.half_machine.specs.Facts.{mode_in}
 use Rattle.half_machine.specs.Marks.{mark_of, is_of_headers}
 use Rattle.half_machine.specs.Due.{streamed_due, buffered_due, partial_due, body_due, due_by_mode, trailers_due, due_in, lent_by}
-use Rattle.half_machine.specs.Stands.{MadeWith, Ties, is_streamed, piece_bytes, left_hand, hand_of}
+use Rattle.half_machine.specs.Stands.{ArePieces, MadeWith, Ties, is_streamed, piece_bytes, left_hand, hand_of}
 use Rattle.half_machine.specs.Asking.{due_of, may_ask, CanLend, CanMake}
 use Rattle.half_machine.specs.declared.due.Due.{Due}
 use Rattle.half_machine.specs.declared.due.Due.TheVariants as due
@@ -93,6 +93,14 @@ body_size a k limit hand false Buffered n last e = let s = buffered_size a k han
 body_size a k limit hand false Partial n last e = let s = partial_size a k limit hand n last e in (s.0, inr (refl, s.1))
 
 -- There is room
+
+joined_pieces : (lent : List (List ℕ)) → ArePieces lent → length (joined lent) ≤ 16_384 * length lent
+joined_pieces [] s = omega arith
+joined_pieces (b ∷ more) s =
+    let l : length (b ++ joined more) ≡ length b + length (joined more) = length-append b (joined more) in
+    let m : length (joined more) ≤ 16_384 * length more = joined_pieces more s.1 in
+    let f : length b ≤ 16_384 = s.0 in
+    omega arith
 
 few_bodies : (asks : List AskedPart) → length (filter is_body asks) ≤ length asks
 few_bodies [] = omega arith
@@ -214,7 +222,7 @@ can_lend c d p x n last m t k e =
   where
     fits : LendsFrom c p x n last → length x.hold.lent < 4 → (b : Bool) → is_streamed p.course.modes.body ≡ b → length (joined x.hold.lent) + n ≤ lent_room x.hold.limit
     fits f less true s =
-        let l : length (joined x.hold.lent) ≤ 16_384 * length x.hold.lent = t.hold.lent_fits s in
+        let l : length (joined x.hold.lent) ≤ 16_384 * length x.hold.lent = joined_pieces x.hold.lent (t.hold.lent_fits s) in
         let q : n ≤ 16_384 = f.small s in
         omega arith
     fits f less false s =

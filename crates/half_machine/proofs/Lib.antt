@@ -2,6 +2,7 @@ pub mod Fresh
 pub mod Seen
 pub mod Early
 pub mod AtHand
+pub mod AskedBody
 pub mod PiecesLeft
 pub mod NextAsk
 pub mod Lending

@@ -1,6 +1,6 @@
 -- A half that made the ask that is due stands for the course with that ask.
 use Rattle.std.proofs.Common.{inl, inr, refl, sym, ◌∙◌, ap, arith, append-nil, length-append, length-drop, subst}
-use Rattle.std.proofs.lemmas.List.{map-append, length-take-le, drop-drop}
+use Rattle.std.proofs.lemmas.List.{map-append, take-append-le, length-take-le, drop-drop}
 use Rattle.std.proofs.lemmas.List.Elements.{filter-append}
 use Rattle.std.proofs.lemmas.List.Folds.{list_any-append}
 use Rattle.std.proofs.lemmas.List.Sums.{sum_by_push}
@@ -14,12 +14,13 @@ use Rattle.http_model.specs.declared.types.Direction.{Direction}
 use Rattle.http_model.specs.declared.types.Length.{Length}
 use Rattle.http_model.specs.declared.types.Framing.TheVariants.{NoField}
 use Rattle.header_mutation.specs.declared.rules.PartKind.TheVariants.{Trailers as TrailerPart}
-use Rattle.body_hold.specs.Held.{Held, joined}
+use Rattle.body_hold.specs.Held.{Held}
 use Rattle.body_hold.specs.Steps.{lend}
+use Rattle.filter_model.specs.Answers.{ask_of}
 use Rattle.filter_model.specs.Config.{CourseConfig}
 use Rattle.filter_model.specs.Course.{Course, AskedPart, Headers, Body, Trailers, changed_at, changed_head, body_of, head_kind, under, is_buffered, is_body, is_headers, is_trailers, is_last_piece, is_stopped, is_passing, passing_at, mode, bytes_in, out, pairs, asked_bytes, answered_bytes, answered_pieces, answered_piece, answer_to, replaces, replacement, replacement_at, is_bare, unasked, next, next_body}
 use Rattle.filter_model.specs.Half.{Progress}
-use Rattle.filter_model.proofs.CourseGrows.{none_of_kind, any_same, with_ask, zip_longer, drop_longer, passing_same, not_passing}
+use Rattle.filter_model.proofs.CourseGrows.{none_of_kind, any_same, with_ask, drop_longer, passing_same, not_passing}
 use Rattle.filter_model.proofs.Sounds.{ask_sound}
 use Rattle.half_machine.specs.Marks.{mark_of, is_of_headers}
 use Rattle.half_machine.specs.Pieces.{OfPieces, pieces_by, pieces_of}
@@ -29,7 +30,7 @@ use Rattle.ext_msgs.specs.declared.modes.BodyMode.{BodyMode}
 use Rattle.ext_msgs.specs.declared.modes.BodyMode.TheVariants.{NoAsk, Streamed, Buffered, Partial}
 use Rattle.half_machine.proofs.Early.{unanswered, same_head}
 use Rattle.half_machine.specs.declared.facts.Arrived.{Arrived}
-use Rattle.half_machine.specs.Stands.{IsKept, AreKept, OfAnswers, OfAsks, OfCounts, OfHold, MadeWith, Ties, is_streamed, piece_bytes, left_hand, flow}
+use Rattle.half_machine.specs.Stands.{IsKept, AreKept, ArePieces, OfAnswers, OfAsks, OfCounts, OfHold, MadeWith, Ties, is_streamed, piece_bytes, left_hand, flow}
 use Rattle.half_machine.specs.Room.{OfRoom}
 use Rattle.half_machine.specs.Asking.{due_of, may_ask, with_due, lent_to, counted_for}
 use Rattle.half_machine.specs.Choosing.{IsChosen}
@@ -39,18 +40,14 @@ use Rattle.half_machine.specs.declared.facts.Asked.{Asked}
 use Rattle.half_machine.specs.declared.facts.Counts.{Counts}
 use Rattle.half_machine.specs.declared.facts.Ruled.{Ruled}
 use Rattle.half_machine.specs.declared.half.Half.{Half}
+use Rattle.half_machine.specs.BodyAsks.{BodyAsks}
+use Rattle.half_machine.proofs.AskedBody.{pairs_stay, answer_stays, other_asks, piece_asks}
 use Rattle.half_machine.proofs.AtHand.{unstopped_keeps}
 use Rattle.half_machine.proofs.NextAsk.{part, body_is_due, next_is_due}
 use Rattle.half_machine.proofs.Room.{joined_more, room_same, room_lent}
 use Rattle.half_machine.proofs.Lending.{LendsFrom, lends_from, going_on, unasked_kept, left_kept, hand_kept}
 
 -- What an ask leaves as it was
-
-pairs_stay : (w : Course) (q : AskedPart) → length w.answers ≤ length w.asks → pairs (with_ask q w) ≡ pairs w
-pairs_stay w q n = zip_longer w.asks (q ∷ []) w.answers n
-
-answer_stays : (kind : AskedPart → Bool) (w : Course) (q : AskedPart) → length w.answers ≤ length w.asks → answer_to kind (with_ask q w) ≡ answer_to kind w
-answer_stays kind w q n = ap (λ l. option_map (λ (q : AskedPart × Common). q.1) (find (λ (q : AskedPart × Common). kind q.0) l)) (pairs_stay w q n)
 
 out_more : (w : Course) (q : AskedPart) → length w.answers ≤ length w.asks → out (with_ask q w) ≡ out w ++ q ∷ []
 out_more w q n = drop_longer w.asks (q ∷ []) w.answers n
@@ -140,7 +137,6 @@ asked_more k w handed q a s y u h b l t =
       unsent = omega arith;
       unhanded = omega arith;
       order = s.order;
-      answered = s.answered;
     }
 
 or_none : (x : Bool) → x ≡ (x || (false || false))
@@ -199,6 +195,10 @@ lent_with w q h more n e f =
     ∙ ap (map bytes_in) (sym (filter-append is_body (out w) (q ∷ [])))
     ∙ ap (λ l. map bytes_in (filter is_body l)) (sym (out_more w q n))
 
+pieces_more : (lent : List (List ℕ)) (piece : List ℕ) → ArePieces lent → length piece ≤ 16_384 → ArePieces (lent ++ piece ∷ [])
+pieces_more [] piece s f = (f, tt)
+pieces_more (l ∷ lent) piece s f = (s.0, pieces_more lent piece s.1 f)
+
 -- an ask that lends no bytes
 hold_stays : (c : CourseConfig) (d : Direction) (w : Course) (handed : ℕ) (q : AskedPart) (h : Held) → length w.answers ≤ length w.asks → w.released ≡ false
     → is_body q ≡ false → map bytes_in (filter is_body (q ∷ [])) ≡ [] → length (bytes_in q) ≡ 0 → OfHold h c d w handed → OfHold h c d (with_ask q w) handed
@@ -248,12 +248,7 @@ hold_lent c d w handed n last h m r u l k e s =
       there = let a = s.there in let b : length (flow c d (with_ask q w)) ≡ length (flow c d w) = ap length kept in omega arith;
       idle = λ a v. absurd (clash (or_true (list_any is_body w.asks) ∙ sym (list_any-append is_body w.asks (q ∷ [])) ∙ a));
       hand_fits = let a = s.hand_fits in let b : length (drop n h.hand) ≡ length h.hand - n = length-drop n h.hand in omega arith;
-      lent_fits = λ v.
-          let a : length (joined h.lent) ≤ 16_384 * length h.lent = s.lent_fits v in
-          let b : n ≤ 16_384 = k v in
-          let j : length (joined (h.lent ++ take n h.hand ∷ [])) ≡ length (joined h.lent) + length (take n h.hand) = joined_more h.lent (take n h.hand) in
-          let i : length (h.lent ++ take n h.hand ∷ []) ≡ length h.lent + 1 = length-append h.lent (take n h.hand ∷ []) in
-          omega arith;
+      lent_fits = λ v. pieces_more h.lent (take n h.hand) (s.lent_fits v) (let b : n ≤ 16_384 = k v in omega arith);
     }
   where
     clash : true ≡ false → ⊥
@@ -368,16 +363,18 @@ trailers_kept c d p x t e =
 
 assemble : (c : CourseConfig) (d : Direction) (p : Progress) (x : Half) (a : Due) (q : AskedPart) → Ties c d p x → mark_of q ≡ mark_for a
     → OfAsks (made_with a x.asked) (with_ask q p.course) p.handed → OfCounts (counted_for (lent_by a) x.counts) d (with_ask q p.course) p.taken.body
-    → OfHold (lent_to (lent_by a) x.hold) c d (with_ask q p.course) p.taken.body
+    → OfHold (lent_to (lent_by a) x.hold) c d (with_ask q p.course) p.taken.body → BodyAsks (with_ask q p.course)
     → OfRoom (lent_to (lent_by a) x.hold) c p.course.modes.headers (p.course.asks ++ q ∷ []) p.course.original.body p.course.released → next c p.course ≡ Some q
     → IsKept x.head x.arrived.framed x.trailers q → Ties c d (record p { course = with_ask q p.course }) (with_due a x)
-assemble c d p x a q t m k u h r e y =
+assemble c d p x a q t m k u h b r e y =
     let w : Course = p.course in
     let n : length w.answers ≤ length w.asks = t.sound.counts in
     record {
       arrived = t.arrived;
       rule = rule_stays x.rule d w q n t.rule;
       asked = k;
+      ready = t.ready ∙ ap (λ l. map (ask_of d) (drop p.handed l)) (sym (take-append-le (length w.answers) w.asks (q ∷ []) n));
+      body_asks = b;
       counts = u;
       gone = record { framing = t.gone.framing; head = t.gone.head; trailers = t.gone.trailers; ended = t.gone.ended; early = t.gone.early };
       hold = h;
@@ -401,6 +398,16 @@ assemble c d p x a q t m k u h r e y =
     fewer None e = e
     fewer (Some n) e = omega arith
 
+with_body : (b : Bool) (o : Option Due) {n : ℕ} {last : Bool} → (if b then None else o) ≡ Some (due.Body n last) → b ≡ false
+with_body true o e = absurd cc
+with_body false o e = refl
+
+not_streamed : (m : BodyMode) → is_buffered m ≡ true → is_streamed m ≡ false
+not_streamed NoAsk e = refl
+not_streamed Streamed e = absurd cc
+not_streamed Buffered e = refl
+not_streamed Partial e = refl
+
 -- a half after the ask that was due
 pub made_ties : (c : CourseConfig) (d : Direction) (p : Progress) (x : Half) (a : Due) → MadeWith c d x → Ties c d p x → IsChosen x → may_ask x ≡ true → due_of x ≡ Some a
     → Ties c d (record p { course = with_ask (part p x a) p.course }) (with_due a x)
@@ -421,7 +428,8 @@ made_ties c d p x a m t k y e = by a e
         let q : AskedPart = part p x due.Headers in
         assemble c d p x due.Headers q t refl (asks_of due.Headers)
         (counts_with x.counts d p.course p.taken.body q x.counts.unasked t.sound.counts on.0 (unstopped_keeps d p.course on.1) t.counts (minus_none x.counts.unasked))
-        (hold_stays c d p.course p.taken.body q x.hold t.sound.counts on.0 refl refl refl t.hold) (room_same c d p x due.Headers t e refl) (next_of due.Headers e) (headers_kept c d p x t e)
+        (hold_stays c d p.course p.taken.body q x.hold t.sound.counts on.0 refl refl refl t.hold)
+        (other_asks p.course q t.sound.counts refl t.body_asks) (room_same c d p x due.Headers t e refl) (next_of due.Headers e) (headers_kept c d p x t e)
     by (due.Body n last) e =
         let f : LendsFrom c p x n last = lends_from c d p x n last m t e in
         let q : AskedPart = part p x (due.Body n last) in
@@ -431,6 +439,7 @@ made_ties c d p x a m t k y e = by a e
         (counts_with x.counts d p.course p.taken.body q (x.counts.unasked - n) t.sound.counts f.unreleased u t.counts
         (ap (λ z. x.counts.unasked - z) (sym (length-take-le n x.hold.hand f.there))))
         (hold_lent c d p.course p.taken.body n last x.hold t.sound.counts f.unreleased u f.there f.small b t.hold)
+        (piece_asks p.course q t.sound.counts f.going (ap is_bodiless (sym t.arrived.framed) ∙ with_body (is_bodiless x.arrived.framed) _ f.due) (λ b. f.first (not_streamed p.course.modes.body b)) t.body_asks)
         (room_lent c d p x n last m t k y e f b)
         (next_of (due.Body n last) e) tt
     by due.Trailers e =
@@ -438,4 +447,5 @@ made_ties c d p x a m t k y e = by a e
         let q : AskedPart = part p x due.Trailers in
         assemble c d p x due.Trailers q t refl (asks_of due.Trailers)
         (counts_with x.counts d p.course p.taken.body q x.counts.unasked t.sound.counts on.0 (unstopped_keeps d p.course on.1) t.counts (minus_none x.counts.unasked))
-        (hold_stays c d p.course p.taken.body q x.hold t.sound.counts on.0 refl refl refl t.hold) (room_same c d p x due.Trailers t e refl) (next_of due.Trailers e) (trailers_kept c d p x t e)
+        (hold_stays c d p.course p.taken.body q x.hold t.sound.counts on.0 refl refl refl t.hold)
+        (other_asks p.course q t.sound.counts refl t.body_asks) (room_same c d p x due.Trailers t e refl) (next_of due.Trailers e) (trailers_kept c d p x t e)

@@ -22,6 +22,7 @@ use Rattle.half_machine.specs.Room.{most_back}
 use Rattle.half_machine.specs.Stands.{OfCounts, OfHold, Ties, StandsFor, flow, piece_bytes, left_hand}
 use Rattle.half_machine.specs.declared.facts.Counts.{Counts}
 use Rattle.half_machine.specs.declared.half.Half.{Half}
+use Rattle.half_machine.proofs.AskedBody.{released_asks}
 use Rattle.half_machine.proofs.AtHand.{flow_kept, rest_at_hand}
 use Rattle.half_machine.proofs.Coming.{answered_were_asked, unasked_all, no_hand}
 use Rattle.half_machine.proofs.Lending.{hand_kept, left_kept, no_bodies, none_out, unasked_kept}
@@ -235,7 +236,9 @@ assemble : (c : CourseConfig) (d : Direction) (p : Progress) (x : Half) (k : Cou
 assemble c d p x k h t u s l f = record {
   arrived = t.arrived;
   rule = record { modes = t.rule.modes; released = refl; stopped = t.rule.stopped; passes = t.rule.passes; replaced = t.rule.replaced; headers = t.rule.headers; body = t.rule.body };
-  asked = record { any = t.asked.any; body = t.asked.body; last = t.asked.last; trailers = t.asked.trailers; unsent = t.asked.unsent; unhanded = t.asked.unhanded; order = t.asked.order; answered = t.asked.answered };
+  asked = record { any = t.asked.any; body = t.asked.body; last = t.asked.last; trailers = t.asked.trailers; unsent = t.asked.unsent; unhanded = t.asked.unhanded; order = t.asked.order };
+  ready = t.ready;
+  body_asks = released_asks p.course t.body_asks;
   counts = u;
   gone = record { framing = t.gone.framing; head = t.gone.head; trailers = t.gone.trailers; ended = t.gone.ended; early = t.gone.early };
   hold = s;

@@ -1,5 +1,5 @@
 -- A half that got other modes stands for the course that has them: nothing of the body was asked.
-use Rattle.std.proofs.Common.{inl, inr, refl, sym, ◌∙◌, ap, arith}
+use Rattle.std.proofs.Common.{inl, inr, refl, sym, ◌∙◌, ap, subst, arith}
 use Rattle.std.specs.Prelude.{ℕ, ◌≡◌, ◌⊎◌, ◌+◌, ◌-◌, ◌≤◌, Bool, true, false, List, ◌∷◌, ◌++◌, Some, None, [], length, drop, map, filter_map, zip, find, flat_map, Option, is_some, option_map, if◌then◌else◌}
 use Rattle.std.specs.List.{list_any}
 use Rattle.ext_msgs.specs.declared.lists.Field.{Field}
@@ -7,16 +7,17 @@ use Rattle.ext_msgs.specs.declared.answer.Common.{Common}
 use Rattle.ext_msgs.specs.declared.modes.PartModes.{PartModes}
 use Rattle.http_model.specs.Bytes.{is_empty}
 use Rattle.http_model.specs.declared.types.Direction.{Direction}
-use Rattle.body_hold.specs.Held.{Held, joined}
+use Rattle.body_hold.specs.Held.{Held}
 use Rattle.filter_model.specs.Config.{CourseConfig}
 use Rattle.filter_model.specs.Course.{Course, AskedPart, Headers, Body, Trailers, Outgoing, changed_head, head_kind, under, is_buffered, is_bare, is_body, is_headers, is_passing, passing_at, is_stopped, mode, out, pairs, bytes_in, asked_bytes, answered_bytes, answered_pieces, answered_piece, answer_to, replacement, replacement_at}
 use Rattle.filter_model.specs.Half.{Past, Settle, called, settled_modes, progress, course}
 use Rattle.filter_model.specs.Sound.{Sound}
 use Rattle.filter_model.proofs.CourseGrows.{none_of_kind, once_out, no_bytes}
-use Rattle.half_machine.specs.Stands.{OfHold, Ties, StandsFor, flow, piece_bytes, left_hand}
+use Rattle.half_machine.specs.Stands.{ArePieces, OfHold, Ties, StandsFor, flow, piece_bytes, left_hand}
 use Rattle.half_machine.specs.Calls.{MaySettle, settled_in}
 use Rattle.half_machine.specs.Choosing.{Holds}
 use Rattle.half_machine.specs.declared.half.Half.{Half}
+use Rattle.half_machine.proofs.AskedBody.{settled_asks}
 use Rattle.half_machine.proofs.AtHand.{flow_kept}
 use Rattle.half_machine.proofs.Lending.{hand_kept, no_bodies, none_out}
 use Rattle.half_machine.proofs.Coming.{answered_were_asked}
@@ -74,7 +75,7 @@ hold_settled c d w handed h m r i z u e s = record {
   there = there r i z;
   idle = s.idle;
   hand_fits = s.hand_fits;
-  lent_fits = λ q. let l : length (joined h.lent) ≡ 0 = ap (λ x. length (joined x)) (s.lent ∙ ap (map bytes_in) (no_bodies (out w) (none_out w u.body))) in omega arith;
+  lent_fits = λ q. subst ArePieces (sym (s.lent ∙ ap (map bytes_in) (no_bodies (out w) (none_out w u.body)))) tt;
 }
   where
     none : flat_map (λ p. p) (answered_pieces w) ≡ []
@@ -197,7 +198,9 @@ settle_holds p x m made s y e =
           headers = t.rule.headers;
           body = t.rule.body;
         };
-        asked = record { any = t.asked.any; body = t.asked.body; last = t.asked.last; trailers = t.asked.trailers; unsent = t.asked.unsent; unhanded = t.asked.unhanded; order = t.asked.order; answered = t.asked.answered };
+        asked = record { any = t.asked.any; body = t.asked.body; last = t.asked.last; trailers = t.asked.trailers; unsent = t.asked.unsent; unhanded = t.asked.unhanded; order = t.asked.order };
+        ready = t.ready;
+        body_asks = settled_asks w n t.body_asks u.body u.head;
         counts = record { unasked = t.counts.unasked; pieces = t.counts.pieces; waiting = t.counts.waiting };
         gone = record { framing = t.gone.framing; head = t.gone.head; trailers = t.gone.trailers; ended = t.gone.ended; early = t.gone.early };
         hold = hold_settled c d w (progress p).taken.body x.hold n w.released refl (λ r. t.gone.early (u.head r)) u kept t.hold;

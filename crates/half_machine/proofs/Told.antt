@@ -9,6 +9,7 @@ use Rattle.half_machine.specs.Stands.{Ties, StandsFor, piece_bytes}
 use Rattle.half_machine.specs.Calls.{MaySent, MayGiven}
 use Rattle.half_machine.specs.Choosing.{Holds}
 use Rattle.half_machine.specs.declared.half.Half.{Half}
+use Rattle.half_machine.proofs.AskedBody.{aside_asks}
 use Rattle.half_machine.proofs.Chosen.{rule_aside, hold_aside}
 
 pub told : (p : Past) (call : HalfCall) (x : Half) → Holds p.config p.direction (record (progress p) { course = asked p.config p.direction (committed p.config p.direction (called call (course p))) }) x
@@ -45,7 +46,9 @@ sent_holds p x s m =
       record {
         arrived = t.arrived;
         rule = rule_aside x.rule p.direction w w.head (suc w.sent) w.given t.rule;
-        asked = record { any = t.asked.any; body = t.asked.body; last = t.asked.last; trailers = t.asked.trailers; unsent = omega arith; unhanded = t.asked.unhanded; order = omega arith; answered = t.asked.answered };
+        asked = record { any = t.asked.any; body = t.asked.body; last = t.asked.last; trailers = t.asked.trailers; unsent = omega arith; unhanded = t.asked.unhanded; order = omega arith };
+        ready = t.ready;
+        body_asks = aside_asks w (suc w.sent) w.given t.body_asks;
         counts = record { unasked = t.counts.unasked; pieces = t.counts.pieces; waiting = t.counts.waiting };
         gone = record { framing = t.gone.framing; head = t.gone.head; trailers = t.gone.trailers; ended = t.gone.ended; early = t.gone.early };
         hold = hold_aside x.hold p.config p.direction w (progress p).taken.body w.head (suc w.sent) w.given t.hold;
@@ -83,7 +86,9 @@ given_holds p x n s m =
       record {
         arrived = t.arrived;
         rule = rule_aside x.rule p.direction w w.head w.sent (w.given + n) t.rule;
-        asked = record { any = t.asked.any; body = t.asked.body; last = t.asked.last; trailers = t.asked.trailers; unsent = t.asked.unsent; unhanded = t.asked.unhanded; order = t.asked.order; answered = t.asked.answered };
+        asked = record { any = t.asked.any; body = t.asked.body; last = t.asked.last; trailers = t.asked.trailers; unsent = t.asked.unsent; unhanded = t.asked.unhanded; order = t.asked.order };
+        ready = t.ready;
+        body_asks = aside_asks w w.sent (w.given + n) t.body_asks;
         counts = record {
           unasked = ap (λ k. x.counts.unasked - (n - k)) j
               ∙ given_unasked (is_some (replacement p.direction w)) x.counts.unasked (length w.original.body) (if w.released then answered_bytes (pairs w) else asked_bytes w.asks) (piece_bytes w) w.given n t.counts.unasked;

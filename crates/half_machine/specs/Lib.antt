@@ -1,6 +1,7 @@
 pub mod Marks
 pub mod Facts
 pub mod Due
+pub mod BodyAsks
 pub mod Room
 pub mod Pieces
 pub mod Stands

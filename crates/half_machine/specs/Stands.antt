@@ -1,7 +1,8 @@
 -- What a half stands for: each of its fields is what the definitions say of its past.
-use Rattle.std.specs.Prelude.{ℕ, ◌+◌, ◌-◌, ◌*◌, ◌≡◌, ◌≤◌, min, Bool, true, false, not, List, [], ◌∷◌, ◌++◌, length, drop, map, filter, flat_map, Some, None, is_some, option_map, if◌then◌else◌, Option}
+use Rattle.std.specs.Prelude.{ℕ, ◌+◌, ◌-◌, ◌*◌, ◌≡◌, ◌≤◌, min, Bool, true, false, not, List, [], ◌∷◌, ◌++◌, length, take, drop, map, filter, flat_map, Some, None, is_some, option_map, if◌then◌else◌, Option}
 use Rattle.std.specs.List.{list_any}
 use Rattle.ext_msgs.specs.declared.lists.Field.{Field}
+use Rattle.ext_msgs.specs.declared.ask.Ask.{Ask}
 use Rattle.ext_msgs.specs.declared.modes.BodyMode.{BodyMode}
 use Rattle.ext_msgs.specs.declared.modes.BodyMode.TheVariants.{Streamed}
 use Rattle.header_mutation.specs.declared.rules.PartKind.TheVariants.{Trailers as TrailerPart}
@@ -15,11 +16,13 @@ use Rattle.http_model.specs.declared.types.Direction.TheVariants.{Request, Respo
 use Rattle.http_model.specs.declared.types.Length.{Length}
 use Rattle.http_model.specs.declared.types.Framing.{Framing}
 use Rattle.http_model.specs.declared.types.Framing.TheVariants.{NoField}
+use Rattle.filter_model.specs.Answers.{ask_of}
 use Rattle.filter_model.specs.Config.{CourseConfig}
 use Rattle.filter_model.specs.Course.{Course, AskedPart, Headers, Body, Trailers, Outgoing, changed_at, changed_head, body_of, out, pairs, bytes_in, is_headers, is_body, is_trailers, is_last_piece, asked_bytes, answered_bytes, answered_pieces, answer_to, is_passing, is_stopped, replacement, replaces, under, unasked, framing_at}
 use Rattle.filter_model.specs.Half.{Past, Progress, progress}
 use Rattle.filter_model.specs.Sound.{Sound}
-use Rattle.body_hold.specs.Held.{Held, joined}
+use Rattle.body_hold.specs.Held.{Held}
+use Rattle.half_machine.specs.BodyAsks.{BodyAsks}
 use Rattle.half_machine.specs.Marks.{mark_of}
 use Rattle.half_machine.specs.Room.{OfRoom}
 use Rattle.half_machine.specs.Pieces.{OfPieces, pieces_of}
@@ -61,7 +64,10 @@ pub record OfAsks (x : Asked) (w : Course) (handed : ℕ) : Type 0 where
   pub unsent : x.unsent + w.sent ≡ length w.asks
   pub unhanded : x.unhanded + handed ≡ length w.asks
   pub order : w.sent ≤ handed
-  pub answered : length w.answers ≤ handed
+
+-- the asks that were answered before they were handed out
+abbrev pub answered_first : Direction → Course → ℕ → List Ask
+answered_first d w handed = map (ask_of d) (drop handed (take (length w.answers) w.asks))
 
 abbrev pub piece_bytes : Course → ℕ
 piece_bytes w = length (flat_map (λ p. p) (answered_pieces w))
@@ -86,6 +92,11 @@ abbrev pub is_streamed : BodyMode → Bool
 is_streamed Streamed = true
 is_streamed _ = false
 
+-- each is at most one piece
+abbrev pub ArePieces : List (List ℕ) → Type 0
+ArePieces [] = Unit {0}
+ArePieces (b ∷ more) = (length b ≤ 16_384) × ArePieces more
+
 -- bytes that pass stay at hand until they are handed out
 pub record OfHold (x : Held) (c : CourseConfig) (d : Direction) (w : Course) (handed : ℕ) : Type 0 where
   pub lent : x.lent ≡ map bytes_in (filter is_body (out w))
@@ -96,7 +107,7 @@ pub record OfHold (x : Held) (c : CourseConfig) (d : Direction) (w : Course) (ha
   pub there : handed ≤ length (flow c d w)
   pub idle : list_any is_body w.asks ≡ false → is_some (replacement d w) ≡ false → x.out ≡ []
   pub hand_fits : length x.hand ≤ c.buffer_limit + 65_536
-  pub lent_fits : is_streamed w.modes.body ≡ true → length (joined x.lent) ≤ 16_384 * length x.lent
+  pub lent_fits : is_streamed w.modes.body ≡ true → ArePieces x.lent
 
 pub record OfGone (x : Gone) (p : Progress) : Type 0 where
   pub framing : x.framing ≡ option_map (λ (o : Outgoing). o.framing) p.course.head
@@ -119,6 +130,8 @@ pub record Ties (c : CourseConfig) (d : Direction) (p : Progress) (x : Half) : T
   pub arrived : OfOriginal x.arrived p.course.original
   pub rule : OfAnswers x.rule d p.course
   pub asked : OfAsks x.asked p.course p.handed
+  pub ready : x.ready ≡ answered_first d p.course p.handed
+  pub body_asks : BodyAsks p.course
   pub counts : OfCounts x.counts d p.course p.taken.body
   pub gone : OfGone x.gone p
   pub hold : OfHold x.hold c d p.course p.taken.body

@@ -14,6 +14,7 @@ use crate::facts::{
 };
 use crate::lengths::Lengths;
 use crate::marks::Marks;
+use crate::ready::Ready;
 use body_hold::Hold;
 use ext_msgs::FieldList;
 use header_mutation::{HalfSetup, Rules};
@@ -39,6 +40,7 @@ pub struct Half {
     pub(crate) hold: Hold,
     pub(crate) pieces: Lengths,
     pub(crate) marks: Marks,
+    pub(crate) ready: Ready,
     pub(crate) head: Option<FieldList>,
     pub(crate) trailers: FieldList,
 }
@@ -112,6 +114,7 @@ impl Half {
             hold,
             pieces: Lengths::new(alloc),
             marks,
+            ready: Ready::new(alloc),
             head: None,
             trailers: FieldList::new(alloc),
         })

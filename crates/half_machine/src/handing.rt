@@ -1,6 +1,6 @@
 //! What a half hands out.
 
-ghost use Rattle.std.specs.Prelude.{◌≡◌, IfOk, unwrap_or, []};
+ghost use Rattle.std.specs.Prelude.{◌≡◌, IfOk, OnErr, unwrap_or, []};
 ghost use Rattle.filter_model.specs.Answers.{ask_of};
 ghost use Rattle.filter_model.specs.Course.{Headers, Body, Trailers};
 ghost use Rattle.filter_model.specs.Half.{Past, next_handed};
@@ -48,7 +48,12 @@ impl Half {
         requires { Stands self.old (λ p. Unit {0}) }
         ensures exact { (p : Past) → StandsFor p self.old → IfOk result (λ ask. ask ≡ next_handed p) }
         ensures stands { (p : Past) → StandsFor p self.old → IfOk result (λ ask. StandsFor (after_ask ask p) self.new) }
+        ensures unchanged { OnErr result (self.new ≡ self.old) }
     {
+        if let Some(ask) = self.ready.take() {
+            self.asked.unhanded -= 1;
+            return Ok(Some(ask));
+        }
         if self.asked.unhanded == 0 {
             return Ok(None);
         }

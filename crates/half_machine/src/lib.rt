@@ -17,5 +17,6 @@ mod handing;
 mod lengths;
 mod marks;
 mod own;
+mod ready;
 
 pub use half::Half;

@@ -2,6 +2,7 @@ use Rattle.std.proofs.Common.{refl, ap, sym, ◌∙◌, arith}
 use Rattle.body_hold.specs.Held.{Held}
 use Rattle.http_model.specs.declared.types.Direction.{Direction}
 use Rattle.half_machine.specs.Stands.{direction_of}
+use Rattle.half_machine.proofs.AskedBody.{fresh_asks}
 use Rattle.half_machine.proofs.Fresh.{fresh_sound, fresh_kept, fresh_unasked, fresh_hold, fresh_room}
 use Rattle.half_machine.proofs.PiecesLeft.{fresh_pieces}
 use Rattle.half_machine.proofs.half.Half.new.Goals as goal
@@ -25,7 +26,9 @@ returns c config f =
       ties = record {
         arrived = record { head = refl; framed = refl; own = λ h e. absurd cc; whole = refl; trailers = refl; bytes = refl; bare = λ e. refl; unread = λ e. (refl, refl) };
         rule = record { modes = refl; released = refl; stopped = refl; passes = refl; replaced = sym (fresh_kept d modes); headers = refl; body = refl };
-        asked = record { any = refl; body = refl; last = refl; trailers = refl; unsent = refl; unhanded = refl; order = omega arith; answered = omega arith };
+        asked = record { any = refl; body = refl; last = refl; trailers = refl; unsent = refl; unhanded = refl; order = omega arith };
+        ready = c.new-4.ensures;
+        body_asks = fresh_asks modes;
         counts = record { unasked = sym (fresh_unasked d modes); pieces = refl; waiting = refl };
         gone = record { framing = refl; head = refl; trailers = refl; ended = refl; early = λ e. refl };
         hold = fresh_hold config d modes c.in_ok-hold.hold c.args.setup.buffer_limit c.args.setup.answer_limit c.in_ok-hold.ensures;
@@ -35,7 +38,7 @@ returns c config f =
         marks = c.in_ok-marks.ensures;
         head = refl;
         fields = λ o e. absurd cc;
-        trailers = c.new-4.ensures;
+        trailers = c.new-5.ensures;
         parts = tt;
         few = omega arith;
         sound = fresh_sound config modes;
