@@ -2,7 +2,7 @@
 
 ghost use Rattle.std.specs.Prelude.{◌≡◌, ◌≤◌, ◌<◌, ◌+◌, [], length, All, Some, IfOk, slice_get};
 ghost use Rattle.body_hold.specs.Held.{hand_room, lent_room, out_room, joined, held};
-ghost use Rattle.body_hold.specs.Steps.{put, lend, backed, passed, taken, dropped, new_piece};
+ghost use Rattle.body_hold.specs.Steps.{put, lend, backed, passed, lent_passed, taken, dropped, new_piece};
 
 use crate::moves::{append, piece_at, queue_of, shift};
 use pb_wire::Blob;
@@ -119,6 +119,14 @@ impl Hold {
         ensures { self.new ≡ passed n self.old }
     {
         shift(&mut self.hand, &mut self.out, n);
+    }
+
+    /// The lent bytes go out as they are. They stay lent, since their asks may still need them.
+    pub fn pass_lent(&mut self)
+        requires { length self.old.out + length (joined self.old.lent) ≤ out_room self.old.limit self.old.answer }
+        ensures { self.new ≡ lent_passed self.old }
+    {
+        append(&mut self.out, self.lent.front());
     }
 
     /// The k-th lent piece, from 0, the oldest first.

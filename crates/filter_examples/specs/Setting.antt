@@ -42,7 +42,7 @@ no_rules = record {
 }
 
 abbrev pub small : CourseConfig
-small = record { rules = no_rules; buffer_limit = 4; piece = 4; mark = 16 }
+small = record { rules = no_rules; buffer_limit = 4; answer_limit = 1024; piece = 4; mark = 16 }
 
 -- the request headers are asked, and the request body in this mode; of the response nothing
 abbrev pub config : BodyMode → FilterConfig
@@ -53,7 +53,6 @@ config mode = record {
   max_timeout_ms = 0;
   allow_override = false;
   no_immediate = false;
-  answer_limit = 1024;
   request = send mode;
   response = skip;
 }

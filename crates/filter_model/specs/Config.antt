@@ -7,6 +7,7 @@ use Rattle.header_mutation.specs.declared.rules.Rules.{Rules}
 pub record CourseConfig : Type 0 where
   pub rules : Rules
   pub buffer_limit : ℕ  -- how many body bytes are kept for one ask
+  pub answer_limit : ℕ  -- the greatest answer in bytes
   pub piece : ℕ  -- the greatest piece of a streamed body, and of what is read at once
   pub mark : ℕ  -- with more bytes than that waiting to be given, no ask is made
 
@@ -17,6 +18,5 @@ pub record FilterConfig : Type 0 where
   pub max_timeout_ms : ℕ  -- max_message_timeout
   pub allow_override : Bool  -- allow_mode_override
   pub no_immediate : Bool  -- disable_immediate_response
-  pub answer_limit : ℕ  -- the greatest answer in bytes
   pub request : PartModes  -- processing_mode
   pub response : PartModes

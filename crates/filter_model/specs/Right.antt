@@ -173,7 +173,7 @@ abbrev pub MayCome : FilterConfig → List Call → Event → Type 0
 MayCome c (Failed ∷ h) event.Starved = Unit {0}
 MayCome c (Failed ∷ h) _ = ⊥
 MayCome c h event.Sent = (account c h).sent < length (filter_map ask_given h)
-MayCome c h (event.Answer bytes) = length bytes ≤ c.answer_limit
+MayCome c h (event.Answer bytes) = length bytes ≤ c.course.answer_limit
 MayCome c h _ = Unit {0}
 
 -- every event but bytes and answers is taken without memory

@@ -14,7 +14,7 @@ use Rattle.filter_model.proofs.Sounds.{commit_sound}
 use Rattle.half_machine.specs.Facts.{mode_in, settled_in}
 use Rattle.half_machine.specs.Stands.{MadeWith, Ties, OfAnswers, OfHold, piece_bytes, flow, left_hand}
 use Rattle.half_machine.specs.Asking.{Tied, passes, may_ask, due_of, with_next, one_asked_in}
-use Rattle.half_machine.specs.Choosing.{may_go, kept_framing_in, framing_in, chosen_in, Holds}
+use Rattle.half_machine.specs.Choosing.{may_go, kept_framing_in, framing_in, chosen_in, IsChosen, Holds}
 use Rattle.half_machine.specs.declared.due.Due.{Due}
 use Rattle.half_machine.specs.declared.due.Due.TheVariants as due
 use Rattle.body_hold.specs.Held.{Held}
@@ -147,6 +147,7 @@ chosen c d p x h m t n e f = record {
     early = λ z. t.gone.early n;
   };
   hold = hold_aside x.hold c d p.course p.taken.body (committed c d p.course).head p.course.sent p.course.given t.hold;
+  room = t.room;
   pieces = t.pieces;
   pieces_fit = t.pieces_fit;
   marks = t.marks;
@@ -221,23 +222,38 @@ asked_made c d x m = by (may_ask x) (due_of x)
 pub choose_holds : (c : CourseConfig) (d : Direction) (p : Progress) (x y : Half) → y ≡ chosen_in x → Holds c d p x → Holds c d (record p { course = committed c d p.course }) y
 choose_holds c d p x y e h = subst (λ z. Holds c d (record p { course = committed c d p.course }) z) (sym e) (chosen_made c d x h.0, chosen_ties c d p x h.0 h.1)
 
-pub ask_holds : (c : CourseConfig) (d : Direction) (p : Progress) (x y : Half) → y ≡ one_asked_in x → Holds c d p x → Holds c d (record p { course = one_asked c d p.course }) y
-ask_holds c d p x y e h = subst (λ z. Holds c d (record p { course = one_asked c d p.course }) z) (sym e) (asked_made c d x h.0, one_asked_ties c d p x h.0 h.1)
+pub choose_chosen : (x y : Half) → y ≡ chosen_in x → IsChosen y
+choose_chosen x y e = subst IsChosen (sym e) (by (not (is_some x.gone.framing) && may_go x && x.arrived.head) refl)
+  where
+    by : (b : Bool) → (not (is_some x.gone.framing) && may_go x && x.arrived.head) ≡ b → IsChosen (if b then record x { gone = record x.gone { framing = Some (framing_in x) } } else x)
+    by true i = refl
+    by false i = i
+
+pub ask_chosen : (x y : Half) → y ≡ one_asked_in x → IsChosen x → IsChosen y
+ask_chosen x y e k = subst IsChosen (sym e) (by (may_ask x) (due_of x))
+  where
+    by : (b : Bool) (o : Option Due) → IsChosen (if b then with_next o x else x)
+    by false o = k
+    by true None = k
+    by true (Some a) = k
+
+pub ask_holds : (c : CourseConfig) (d : Direction) (p : Progress) (x y : Half) → y ≡ one_asked_in x → IsChosen x → Holds c d p x → Holds c d (record p { course = one_asked c d p.course }) y
+ask_holds c d p x y e k h = subst (λ z. Holds c d (record p { course = one_asked c d p.course }) z) (sym e) (asked_made c d x h.0, one_asked_ties c d p x h.0 h.1 k)
 
 pub go_on_holds : (c : CourseConfig) (d : Direction) (p : Progress) (y : Half) → (w : Course) → w ≡ committed c d p.course
     → Holds c d (record p { course = one_asked c d (one_asked c d (one_asked c d (one_asked c d w))) }) y → Holds c d (record p { course = asked c d (committed c d p.course) }) y
 unfolding asked
 go_on_holds c d p y w e h = subst (λ w. Holds c d (record p { course = one_asked c d (one_asked c d (one_asked c d (one_asked c d w))) }) y) e h
 
-pub choose_tied : (x y : Half) → y ≡ chosen_in x → Tied x → Tied y
+pub choose_tied : (x y : Half) → y ≡ chosen_in x → Tied x → Tied y × IsChosen y
 choose_tied x y e q =
     let h = choose_holds q.0 q.1 q.2 x y e (q.3, q.4) in
-    (q.0, q.1, record q.2 { course = committed q.0 q.1 q.2.course }, h.0, h.1)
+    ((q.0, q.1, record q.2 { course = committed q.0 q.1 q.2.course }, h.0, h.1), choose_chosen x y e)
 
-pub ask_tied : (x y : Half) → y ≡ one_asked_in x → Tied x → Tied y
-ask_tied x y e q =
-    let h = ask_holds q.0 q.1 q.2 x y e (q.3, q.4) in
-    (q.0, q.1, record q.2 { course = one_asked q.0 q.1 q.2.course }, h.0, h.1)
+pub ask_tied : (x y : Half) → y ≡ one_asked_in x → Tied x × IsChosen x → Tied y × IsChosen y
+ask_tied x y e (q, k) =
+    let h = ask_holds q.0 q.1 q.2 x y e k (q.3, q.4) in
+    ((q.0, q.1, record q.2 { course = one_asked q.0 q.1 q.2.course }, h.0, h.1), ask_chosen x y e k)
 
 pub tied : (c : CourseConfig) (d : Direction) (p : Progress) (x : Half) → Holds c d p x → Tied x
 tied c d p x h = (c, d, p, h.0, h.1)

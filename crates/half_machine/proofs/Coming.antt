@@ -27,6 +27,7 @@ use Rattle.half_machine.specs.declared.half.Half.{Half}
 use Rattle.half_machine.proofs.Seen.{room_is}
 use Rattle.half_machine.proofs.AtHand.{flow_kept}
 use Rattle.half_machine.proofs.Lending.{hand_kept}
+use Rattle.half_machine.proofs.Room.{room_put}
 
 -- the message goes on
 abbrev pub read_on : List ℕ → List Field → Bool → Course → Course
@@ -243,7 +244,7 @@ read_holds p x b ts e a f s m n k o g =
     let t : Ties c d (progress p) x = s.ties in
     let r : Roomy c x b = roomy p x b s m in
     let same : is_some (replacement d w) ≡ x.rule.replaced = sym t.rule.replaced in (
-      subst (λ n. MadeWith c d (record x { hold = record x.hold { limit = n } })) (limit_same x.rule.replaced) s.made,
+      read_made x.rule.replaced,
       record {
         arrived = o;
         rule = record { modes = t.rule.modes; released = t.rule.released; stopped = t.rule.stopped; passes = t.rule.passes; replaced = t.rule.replaced; headers = t.rule.headers; body = t.rule.body };
@@ -251,6 +252,7 @@ read_holds p x b ts e a f s m n k o g =
         counts = record { unasked = unasked_read c d (progress p) x b ts e x.rule.replaced same t; pieces = t.counts.pieces; waiting = t.counts.waiting };
         gone = record { framing = t.gone.framing; head = t.gone.head; trailers = t.gone.trailers; ended = t.gone.ended; early = t.gone.early };
         hold = hold_read c d (progress p) x b ts e x.rule.replaced same r.hand t;
+        room = room_put x.hold c w.modes.headers w.asks w.original.body b w.released x.rule.replaced t.room;
         pieces = t.pieces;
         pieces_fit = t.pieces_fit;
         marks = t.marks;
@@ -268,9 +270,9 @@ read_holds p x b ts e a f s m n k o g =
     clash : true ≡ false → ⊥
     clash e = cc
 
-    limit_same : (q : Bool) → x.hold.limit ≡ (if q then x.hold else put b x.hold).limit
-    limit_same true = refl
-    limit_same false = refl
+    read_made : (q : Bool) → MadeWith p.config p.direction (record x { hold = if q then x.hold else put b x.hold })
+    read_made true = s.made
+    read_made false = s.made
 
 -- Each call
 

@@ -9,6 +9,7 @@ use Rattle.filter_model.specs.Config.{CourseConfig}
 use Rattle.filter_model.specs.Course.{replacement, unasked, is_passing}
 use Rattle.filter_model.specs.Account.{fresh_course}
 use Rattle.filter_model.specs.Sound.{Sound}
+use Rattle.half_machine.specs.Room.{OfRoom}
 use Rattle.half_machine.specs.Stands.{OfHold, flow}
 
 pub fresh_sound : (c : CourseConfig) (modes : PartModes) → Sound c (fresh_course modes)
@@ -59,3 +60,15 @@ fresh_empty c d modes limit answer = record {
 pub fresh_hold : (c : CourseConfig) (d : Direction) (modes : PartModes) (h : Held) (limit answer : ℕ)
     → h ≡ record { limit = limit; answer = answer; hand = []; lent = []; out = [] } → OfHold h c d (fresh_course modes) 0
 fresh_hold c d modes h limit answer e = subst (λ x. OfHold x c d (fresh_course modes) 0) (sym e) (fresh_empty c d modes limit answer)
+
+fresh_roomy : (c : CourseConfig) (headers : Bool) (limit answer : ℕ) → OfRoom (record { limit = limit; answer = answer; hand = []; lent = []; out = [] }) c headers [] [] false
+fresh_roomy c headers limit answer = record {
+  first = λ h e. absurd cc;
+  pieces = refl;
+  lent = omega arith;
+  goes = λ r. omega arith;
+}
+
+pub fresh_room : (c : CourseConfig) (headers : Bool) (h : Held) (limit answer : ℕ)
+    → h ≡ record { limit = limit; answer = answer; hand = []; lent = []; out = [] } → OfRoom h c headers [] [] false
+fresh_room c headers h limit answer e = subst (λ x. OfRoom x c headers [] [] false) (sym e) (fresh_roomy c headers limit answer)

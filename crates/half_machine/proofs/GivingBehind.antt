@@ -266,6 +266,7 @@ behind_stands p x fields b s = by b
         counts = s.ties.counts;
         gone = record { framing = s.ties.gone.framing; head = s.ties.gone.head; trailers = refl; ended = s.ties.gone.ended; early = s.ties.gone.early };
         hold = s.ties.hold;
+        room = s.ties.room;
         pieces = s.ties.pieces;
         pieces_fit = s.ties.pieces_fit;
         marks = s.ties.marks;
@@ -286,6 +287,7 @@ behind_stands p x fields b s = by b
         counts = s.ties.counts;
         gone = record { framing = s.ties.gone.framing; head = s.ties.gone.head; trailers = s.ties.gone.trailers; ended = refl; early = s.ties.gone.early };
         hold = s.ties.hold;
+        room = s.ties.room;
         pieces = s.ties.pieces;
         pieces_fit = s.ties.pieces_fit;
         marks = s.ties.marks;

@@ -20,6 +20,7 @@ use Rattle.half_machine.specs.Asking.{passes}
 use Rattle.half_machine.specs.Giving.{most_of, out_size, out_given, hand_given}
 use Rattle.half_machine.specs.declared.half.Half.{Half}
 use Rattle.half_machine.proofs.Lending.{hand_kept}
+use Rattle.half_machine.proofs.Room.{room_dropped}
 use Rattle.half_machine.proofs.Coming.{no_hand, unasked_all}
 use Rattle.half_machine.proofs.Permit.{passes_is, left_over}
 use Rattle.half_machine.proofs.NextData.{joined, behind_gone, whole_piece, behind_all, first_within, pieces_out, at_end, passed_pieces, piece_gone}
@@ -328,6 +329,7 @@ out_ties c d p x o max n m t h e y u = record {
   counts = record { unasked = t.counts.unasked; pieces = t.counts.pieces; waiting = let a = t.counts.waiting in let b = waiting_fits c d p x n m t y u fits in omega arith };
   gone = record { framing = t.gone.framing; head = t.gone.head; trailers = t.gone.trailers; ended = t.gone.ended; early = λ z. absurd (no_head (sym z ∙ h)) };
   hold = hold_out c d p x n t within fits;
+  room = room_dropped x.hold c p.course.modes.headers p.course.asks p.course.original.body p.course.released n t.room;
   pieces = pieces x.pieces refl;
   pieces_fit = t.pieces_fit;
   marks = t.marks;
@@ -411,6 +413,7 @@ hand_ties c d p x o max n m t h f z q e y u = record {
   counts = record { unasked = t.counts.unasked; pieces = t.counts.pieces; waiting = let a = t.counts.waiting in let b = waiting_fits c d p x n m t y u fits in omega arith };
   gone = record { framing = t.gone.framing; head = t.gone.head; trailers = t.gone.trailers; ended = t.gone.ended; early = λ z. absurd (no_head (sym z ∙ h)) };
   hold = hold_hand c d p x n t z q y within fits;
+  room = record { first = t.room.first; pieces = t.room.pieces; lent = t.room.lent; goes = t.room.goes };
   pieces = subst (λ l. OfPieces l (pieces_of d p.course) (p.taken.body + n)) (sym f)
       (passed_pieces (pieces_of d p.course) p.taken.body n (subst (λ l. OfPieces l (pieces_of d p.course) p.taken.body) f t.pieces));
   pieces_fit = t.pieces_fit;

@@ -97,6 +97,7 @@ head_stands p x fields framing s =
         counts = t.counts;
         gone = record { framing = t.gone.framing; head = refl; trailers = t.gone.trailers; ended = t.gone.ended; early = t.gone.early };
         hold = t.hold;
+        room = t.room;
         pieces = t.pieces;
         pieces_fit = t.pieces_fit;
         marks = t.marks;

@@ -143,6 +143,7 @@ handed_stands p x s u =
         counts = t.counts;
         gone = record { framing = t.gone.framing; head = t.gone.head; trailers = t.gone.trailers; ended = t.gone.ended; early = t.gone.early };
         hold = t.hold;
+        room = t.room;
         pieces = t.pieces;
         pieces_fit = t.pieces_fit;
         marks = t.marks;

@@ -104,6 +104,7 @@ head_holds p x f n own bare s m e g =
         counts = record { unasked = t.counts.unasked ∙ unasked_all d w kept ∙ sym (unasked_all d (headed f n w) keeps); pieces = t.counts.pieces; waiting = t.counts.waiting };
         gone = record { framing = t.gone.framing; head = t.gone.head; trailers = t.gone.trailers; ended = t.gone.ended; early = t.gone.early };
         hold = hold_headed c d w (progress p).taken.body x.hold f n kept keeps t.hold;
+        room = t.room;
         pieces = subst (λ l. OfPieces x.pieces l (progress p).taken.body) (pieces_kept d w kept ∙ sym (pieces_kept d (headed f n w) keeps)) t.pieces;
         pieces_fit = t.pieces_fit;
         marks = t.marks;

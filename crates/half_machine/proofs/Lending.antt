@@ -152,6 +152,7 @@ pub record LendsFrom (c : CourseConfig) (p : Progress) (x : Half) (n : ℕ) (las
   pub small : is_streamed p.course.modes.body ≡ true → n ≤ 16_384
   pub first : is_streamed p.course.modes.body ≡ false → list_any is_body p.course.asks ≡ false
   pub due : body_due x.arrived x.rule x.asked x.limit (length x.hold.hand) ≡ Some (due.Body n last)
+  pub mode : mode_in x.rule ≡ p.course.modes.body
 
 pub going_on : (c : CourseConfig) (d : Direction) (p : Progress) (x : Half) (a : Due) → Ties c d p x → due_of x ≡ Some a
     → (p.course.released ≡ false) × (is_stopped p.course ≡ false)
@@ -182,6 +183,7 @@ lends_from c d p x n last m t e =
       small = λ s. small mode s size.1;
       first = λ s. sym t.asked.body ∙ first mode s size.1;
       due = b;
+      mode = mode;
     }
   where
     clash : true ≡ false → ⊥
@@ -224,13 +226,13 @@ can_lend c d p x n last m t k e =
         let b : x.hold.limit ≡ x.limit = m.hold in
         omega arith
 
-few_of : (m u q : Bool) → (m && u && q) ≡ true → (m ≡ true) × (u ≡ true) × (q ≡ true)
+pub few_of : (m u q : Bool) → (m && u && q) ≡ true → (m ≡ true) × (u ≡ true) × (q ≡ true)
 few_of true true true e = (refl, refl, refl)
 few_of true true false e = absurd cc
 few_of true false q e = absurd cc
 few_of false u q e = absurd cc
 
-below : (n m : ℕ) → nat_lt n m ≡ true → n < m
+pub below : (n m : ℕ) → nat_lt n m ≡ true → n < m
 below n m e = search rules
 
 pub can_make : (c : CourseConfig) (d : Direction) (p : Progress) (x : Half) (a : Due) → MadeWith c d x → Ties c d p x → may_ask x ≡ true → due_of x ≡ Some a → CanMake x a

@@ -5,11 +5,13 @@ pub mod AtHand
 pub mod PiecesLeft
 pub mod NextAsk
 pub mod Lending
+pub mod Room
 pub mod Making
 pub mod Permit
 pub mod Chosen
 pub mod Told
 pub mod Coming
+pub mod Releasing
 pub mod Owned
 pub mod Heading
 pub mod Settling

@@ -30,7 +30,9 @@ use Rattle.ext_msgs.specs.declared.modes.BodyMode.TheVariants.{NoAsk, Streamed, 
 use Rattle.half_machine.proofs.Early.{unanswered, same_head}
 use Rattle.half_machine.specs.declared.facts.Arrived.{Arrived}
 use Rattle.half_machine.specs.Stands.{IsKept, AreKept, OfAnswers, OfAsks, OfCounts, OfHold, MadeWith, Ties, is_streamed, piece_bytes, left_hand, flow}
-use Rattle.half_machine.specs.Asking.{due_of, with_due, lent_to, counted_for}
+use Rattle.half_machine.specs.Room.{OfRoom}
+use Rattle.half_machine.specs.Asking.{due_of, may_ask, with_due, lent_to, counted_for}
+use Rattle.half_machine.specs.Choosing.{IsChosen}
 use Rattle.half_machine.specs.declared.due.Due.{Due}
 use Rattle.half_machine.specs.declared.due.Due.TheVariants as due
 use Rattle.half_machine.specs.declared.facts.Asked.{Asked}
@@ -39,6 +41,7 @@ use Rattle.half_machine.specs.declared.facts.Ruled.{Ruled}
 use Rattle.half_machine.specs.declared.half.Half.{Half}
 use Rattle.half_machine.proofs.AtHand.{unstopped_keeps}
 use Rattle.half_machine.proofs.NextAsk.{part, body_is_due, next_is_due}
+use Rattle.half_machine.proofs.Room.{joined_more, room_same, room_lent}
 use Rattle.half_machine.proofs.Lending.{LendsFrom, lends_from, going_on, unasked_kept, left_kept, hand_kept}
 
 -- What an ask leaves as it was
@@ -195,14 +198,6 @@ lent_with w q h more n e f =
     ∙ sym (map-append bytes_in (filter is_body (out w)) (filter is_body (q ∷ [])))
     ∙ ap (map bytes_in) (sym (filter-append is_body (out w) (q ∷ [])))
     ∙ ap (λ l. map bytes_in (filter is_body l)) (sym (out_more w q n))
-
-joined_more : (lent : List (List ℕ)) (piece : List ℕ) → length (joined (lent ++ piece ∷ [])) ≡ length (joined lent) + length piece
-joined_more [] piece = let e : length (piece ++ []) ≡ length piece = ap length (append-nil piece) in omega arith
-joined_more (l ∷ lent) piece =
-    let e : length (joined (lent ++ piece ∷ [])) ≡ length (joined lent) + length piece = joined_more lent piece in
-    let a : length (l ++ joined (lent ++ piece ∷ [])) ≡ length l + length (joined (lent ++ piece ∷ [])) = length-append l (joined (lent ++ piece ∷ [])) in
-    let b : length (l ++ joined lent) ≡ length l + length (joined lent) = length-append l (joined lent) in
-    omega arith
 
 -- an ask that lends no bytes
 hold_stays : (c : CourseConfig) (d : Direction) (w : Course) (handed : ℕ) (q : AskedPart) (h : Held) → length w.answers ≤ length w.asks → w.released ≡ false
@@ -373,9 +368,10 @@ trailers_kept c d p x t e =
 
 assemble : (c : CourseConfig) (d : Direction) (p : Progress) (x : Half) (a : Due) (q : AskedPart) → Ties c d p x → mark_of q ≡ mark_for a
     → OfAsks (made_with a x.asked) (with_ask q p.course) p.handed → OfCounts (counted_for (lent_by a) x.counts) d (with_ask q p.course) p.taken.body
-    → OfHold (lent_to (lent_by a) x.hold) c d (with_ask q p.course) p.taken.body → next c p.course ≡ Some q
+    → OfHold (lent_to (lent_by a) x.hold) c d (with_ask q p.course) p.taken.body
+    → OfRoom (lent_to (lent_by a) x.hold) c p.course.modes.headers (p.course.asks ++ q ∷ []) p.course.original.body p.course.released → next c p.course ≡ Some q
     → IsKept x.head x.arrived.framed x.trailers q → Ties c d (record p { course = with_ask q p.course }) (with_due a x)
-assemble c d p x a q t m k u h e y =
+assemble c d p x a q t m k u h r e y =
     let w : Course = p.course in
     let n : length w.answers ≤ length w.asks = t.sound.counts in
     record {
@@ -385,6 +381,7 @@ assemble c d p x a q t m k u h e y =
       counts = u;
       gone = record { framing = t.gone.framing; head = t.gone.head; trailers = t.gone.trailers; ended = t.gone.ended; early = t.gone.early };
       hold = h;
+      room = r;
       pieces = subst (λ l. OfPieces x.pieces l p.taken.body) (sym (pieces_stay d w q n)) t.pieces;
       pieces_fit = fit (lent_by a);
       marks = ap (λ l. l ++ mark_for a ∷ []) t.marks ∙ ap (λ z. map mark_of (out w) ++ z ∷ []) (sym m) ∙ sym (map-append mark_of (out w) (q ∷ [])) ∙ ap (map mark_of) (sym (out_more w q n));
@@ -405,9 +402,9 @@ assemble c d p x a q t m k u h e y =
     fewer (Some n) e = omega arith
 
 -- a half after the ask that was due
-pub made_ties : (c : CourseConfig) (d : Direction) (p : Progress) (x : Half) (a : Due) → MadeWith c d x → Ties c d p x → due_of x ≡ Some a
+pub made_ties : (c : CourseConfig) (d : Direction) (p : Progress) (x : Half) (a : Due) → MadeWith c d x → Ties c d p x → IsChosen x → may_ask x ≡ true → due_of x ≡ Some a
     → Ties c d (record p { course = with_ask (part p x a) p.course }) (with_due a x)
-made_ties c d p x a m t e = by a e
+made_ties c d p x a m t k y e = by a e
   where
     next_of : (a : Due) → due_of x ≡ Some a → next c p.course ≡ Some (part p x a)
     next_of a e = next_is_due c d p x m t ∙ ap (option_map (part p x)) e
@@ -424,20 +421,21 @@ made_ties c d p x a m t e = by a e
         let q : AskedPart = part p x due.Headers in
         assemble c d p x due.Headers q t refl (asks_of due.Headers)
         (counts_with x.counts d p.course p.taken.body q x.counts.unasked t.sound.counts on.0 (unstopped_keeps d p.course on.1) t.counts (minus_none x.counts.unasked))
-        (hold_stays c d p.course p.taken.body q x.hold t.sound.counts on.0 refl refl refl t.hold) (next_of due.Headers e) (headers_kept c d p x t e)
+        (hold_stays c d p.course p.taken.body q x.hold t.sound.counts on.0 refl refl refl t.hold) (room_same c d p x due.Headers t e refl) (next_of due.Headers e) (headers_kept c d p x t e)
     by (due.Body n last) e =
         let f : LendsFrom c p x n last = lends_from c d p x n last m t e in
         let q : AskedPart = part p x (due.Body n last) in
         let u = unstopped_keeps d p.course f.going in
+        let b = body_is_due c d p x m t f.unreleased f.going ∙ ap (option_map (part p x)) f.due in
         assemble c d p x (due.Body n last) q t refl (asks_of (due.Body n last))
         (counts_with x.counts d p.course p.taken.body q (x.counts.unasked - n) t.sound.counts f.unreleased u t.counts
         (ap (λ z. x.counts.unasked - z) (sym (length-take-le n x.hold.hand f.there))))
-        (hold_lent c d p.course p.taken.body n last x.hold t.sound.counts f.unreleased u f.there f.small
-        (body_is_due c d p x m t f.unreleased f.going ∙ ap (option_map (part p x)) f.due) t.hold)
+        (hold_lent c d p.course p.taken.body n last x.hold t.sound.counts f.unreleased u f.there f.small b t.hold)
+        (room_lent c d p x n last m t k y e f b)
         (next_of (due.Body n last) e) tt
     by due.Trailers e =
         let on = going_on c d p x due.Trailers t e in
         let q : AskedPart = part p x due.Trailers in
         assemble c d p x due.Trailers q t refl (asks_of due.Trailers)
         (counts_with x.counts d p.course p.taken.body q x.counts.unasked t.sound.counts on.0 (unstopped_keeps d p.course on.1) t.counts (minus_none x.counts.unasked))
-        (hold_stays c d p.course p.taken.body q x.hold t.sound.counts on.0 refl refl refl t.hold) (next_of due.Trailers e) (trailers_kept c d p x t e)
+        (hold_stays c d p.course p.taken.body q x.hold t.sound.counts on.0 refl refl refl t.hold) (room_same c d p x due.Trailers t e refl) (next_of due.Trailers e) (trailers_kept c d p x t e)

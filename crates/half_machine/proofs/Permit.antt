@@ -13,6 +13,7 @@ use Rattle.half_machine.specs.Facts.{mode_in}
 use Rattle.half_machine.specs.Marks.{mark_of, is_of_body}
 use Rattle.half_machine.specs.Due.{passing_in}
 use Rattle.half_machine.specs.Stands.{MadeWith, Ties, flow}
+use Rattle.half_machine.specs.Choosing.{IsChosen}
 use Rattle.half_machine.specs.Asking.{due_of, passes, queued, may_ask, with_next, with_due, one_asked_in}
 use Rattle.half_machine.specs.declared.due.Due.{Due}
 use Rattle.half_machine.specs.declared.half.Half.{Half}
@@ -123,9 +124,9 @@ one_ask : (c : CourseConfig) (d : Direction) (p : Progress) (x : Half) (q : Aske
 unfolding one_asked
 one_ask c d p x q e t = subst (λ l. Ties c d (record p { course = record p.course { asks = p.course.asks ++ l } }) x) (sym e) t
 
-pub one_asked_ties : (c : CourseConfig) (d : Direction) (p : Progress) (x : Half) → MadeWith c d x → Ties c d p x
+pub one_asked_ties : (c : CourseConfig) (d : Direction) (p : Progress) (x : Half) → MadeWith c d x → Ties c d p x → IsChosen x
     → Ties c d (record p { course = one_asked c d p.course }) (one_asked_in x)
-one_asked_ties c d p x m t = by (may_ask x) (due_of x) refl refl
+one_asked_ties c d p x m t k = by (may_ask x) (due_of x) refl refl
   where
     due_is : due c d p.course ≡ (if may_ask x then option_to_list (option_map (part p x) (due_of x)) else [])
     due_is =
@@ -146,4 +147,4 @@ one_asked_ties c d p x m t = by (may_ask x) (due_of x) refl refl
         to (with_due a x) (ap (λ b. if b then with_next (due_of x) x else x) e ∙ ap (λ o. with_next o x) f)
         (one_ask c d p (with_due a x) (part p x a)
         (due_is ∙ ap (λ b. if b then option_to_list (option_map (part p x) (due_of x)) else []) e ∙ ap (λ o. option_to_list (option_map (part p x) o)) f)
-        (made_ties c d p x a m t f))
+        (made_ties c d p x a m t k e f))

@@ -5,6 +5,7 @@ use Rattle.std.specs.List.{list_any}
 use Rattle.ext_msgs.specs.declared.lists.Field.{Field}
 use Rattle.ext_msgs.specs.declared.answer.Common.{Common}
 use Rattle.ext_msgs.specs.declared.modes.PartModes.{PartModes}
+use Rattle.http_model.specs.Bytes.{is_empty}
 use Rattle.http_model.specs.declared.types.Direction.{Direction}
 use Rattle.body_hold.specs.Held.{Held, joined}
 use Rattle.filter_model.specs.Config.{CourseConfig}
@@ -167,6 +168,12 @@ headers_kept : (o : Option (List Field)) (w : Course) (new : PartModes) (c : Cou
 headers_kept None w new c e s h = ap (list_any is_headers) (s.head_read e).1
 headers_kept (Some f) w new c e s h = s.headers h
 
+headers_first : (o : Option (List Field)) (w : Course) (new : PartModes) (c : CourseConfig) → w.original.head ≡ o → Sound c w
+    → (w.modes.headers ≡ true → is_empty w.asks ≡ false → list_any is_headers w.asks ≡ true)
+    → (settled_modes o w.modes new).headers ≡ true → is_empty w.asks ≡ false → list_any is_headers w.asks ≡ true
+headers_first None w new c e s f h n = absurd (clash (ap is_empty (sym (s.head_read e).1) ∙ n))
+headers_first (Some l) w new c e s f h n = f h n
+
 pub settle_holds : (p : Past) (x : Half) (m made : PartModes) → StandsFor p x → MaySettle p → made ≡ settled_in x.arrived.head x.rule.modes m
     → Holds p.config p.direction (record (progress p) { course = called (Settle m) (course p) }) (record x { rule = record x.rule { modes = made } })
 settle_holds p x m made s y e =
@@ -194,6 +201,7 @@ settle_holds p x m made s y e =
         counts = record { unasked = t.counts.unasked; pieces = t.counts.pieces; waiting = t.counts.waiting };
         gone = record { framing = t.gone.framing; head = t.gone.head; trailers = t.gone.trailers; ended = t.gone.ended; early = t.gone.early };
         hold = hold_settled c d w (progress p).taken.body x.hold n w.released refl (λ r. t.gone.early (u.head r)) u kept t.hold;
+        room = record { first = headers_first w.original.head w m c refl t.sound t.room.first; pieces = t.room.pieces; lent = t.room.lent; goes = t.room.goes };
         pieces = t.pieces;
         pieces_fit = t.pieces_fit;
         marks = t.marks;

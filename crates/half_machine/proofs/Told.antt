@@ -49,6 +49,7 @@ sent_holds p x s m =
         counts = record { unasked = t.counts.unasked; pieces = t.counts.pieces; waiting = t.counts.waiting };
         gone = record { framing = t.gone.framing; head = t.gone.head; trailers = t.gone.trailers; ended = t.gone.ended; early = t.gone.early };
         hold = hold_aside x.hold p.config p.direction w (progress p).taken.body w.head (suc w.sent) w.given t.hold;
+        room = t.room;
         pieces = t.pieces;
         pieces_fit = t.pieces_fit;
         marks = t.marks;
@@ -91,6 +92,7 @@ given_holds p x n s m =
         };
         gone = record { framing = t.gone.framing; head = t.gone.head; trailers = t.gone.trailers; ended = t.gone.ended; early = t.gone.early };
         hold = hold_aside x.hold p.config p.direction w (progress p).taken.body w.head w.sent (w.given + n) t.hold;
+        room = t.room;
         pieces = t.pieces;
         pieces_fit = let a = t.pieces_fit in omega arith;
         marks = t.marks;

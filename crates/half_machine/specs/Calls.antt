@@ -1,12 +1,13 @@
 -- When a half may be called so.
-use Rattle.std.specs.Prelude.{ℕ, ◌+◌, ◌≡◌, ◌⊎◌, Bool, ◌≤◌, ◌<◌, min, true, false, List, length, None, is_some, if◌then◌else◌}
+use Rattle.std.specs.Prelude.{ℕ, ◌+◌, ◌≡◌, ◌⊎◌, Bool, not, ◌&&◌, ◌≤◌, ◌<◌, min, true, false, List, length, None, is_some, if◌then◌else◌}
 use Rattle.std.specs.List.{list_any}
-use Rattle.body_hold.specs.Held.{Held, hand_room}
-use Rattle.body_hold.specs.Steps.{put}
+use Rattle.body_hold.specs.Held.{Held, hand_room, joined, out_room}
+use Rattle.body_hold.specs.Steps.{put, lent_passed}
 use Rattle.ext_msgs.specs.declared.modes.PartModes.{PartModes}
 use Rattle.http_model.specs.Heads.{is_bodiless}
 use Rattle.filter_model.specs.Answers.{behind_headers}
 use Rattle.filter_model.specs.Course.{body_room, out, is_headers}
+use Rattle.half_machine.specs.declared.facts.Counts.{Counts}
 use Rattle.half_machine.specs.declared.half.Half.{Half}
 use Rattle.filter_model.specs.Half.{Past, course, progress}
 
@@ -55,6 +56,30 @@ with_bytes b x = record x {
   counts = record x.counts { unasked = unasked_more b x };
   hold = hold_more b x;
 }
+
+-- What a release makes of it: what is lent goes out too, unless another body took its place
+
+abbrev pub lends_out : Half → Bool
+lends_out x = not x.rule.released && not x.rule.replaced
+
+abbrev pub counts_released : Bool → Half → Counts
+counts_released lends x = if lends then record x.counts { unasked = x.counts.unasked + length (joined x.hold.lent) } else x.counts
+
+abbrev pub hold_released : Bool → Half → Held
+hold_released lends x = if lends then lent_passed x.hold else x.hold
+
+abbrev pub released_in : Half → Half
+released_in x = record x {
+  rule = record x.rule { released = true };
+  counts = counts_released (lends_out x) x;
+  hold = hold_released (lends_out x) x;
+}
+
+-- what is lent can go out
+abbrev pub CanRelease : Half → Type 0
+CanRelease x =
+    x.rule.released ≡ false → (length x.hold.out + length (joined x.hold.lent) ≤ out_room x.hold.limit x.hold.answer)
+    × (x.counts.unasked + length (joined x.hold.lent) ≤ 4_294_967_295)
 
 -- the bytes fit
 pub record CanTake (x : Half) (b : List ℕ) : Type 0 where

@@ -1,5 +1,5 @@
 -- How a half chooses its head's framing, once the head may go.
-use Rattle.std.specs.Prelude.{Bool, not, ◌&&◌, ◌||◌, length, Some, is_some, if◌then◌else◌}
+use Rattle.std.specs.Prelude.{◌≡◌, Bool, false, not, ◌&&◌, ◌||◌, length, Some, is_some, if◌then◌else◌}
 use Rattle.http_model.specs.Heads.{is_bodiless}
 use Rattle.http_model.specs.declared.types.Framing.{Framing}
 use Rattle.http_model.specs.declared.types.Framing.TheVariants.{Length as OfLength}
@@ -30,6 +30,10 @@ framing_in x =
 abbrev pub chosen_in : Half → Half
 chosen_in x =
     if not (is_some x.gone.framing) && may_go x && x.arrived.head then record x { gone = record x.gone { framing = Some (framing_in x) } } else x
+
+-- the head was chosen, where it can go
+abbrev pub IsChosen : Half → Type 0
+IsChosen x = (not (is_some x.gone.framing) && may_go x && x.arrived.head) ≡ false
 
 -- it stands for this progress
 abbrev pub Holds : CourseConfig → Direction → Progress → Half → Type 0

@@ -1,6 +1,7 @@
 pub mod Marks
 pub mod Facts
 pub mod Due
+pub mod Room
 pub mod Pieces
 pub mod Stands
 pub mod Asking

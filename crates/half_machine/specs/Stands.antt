@@ -21,6 +21,7 @@ use Rattle.filter_model.specs.Half.{Past, Progress, progress}
 use Rattle.filter_model.specs.Sound.{Sound}
 use Rattle.body_hold.specs.Held.{Held, joined}
 use Rattle.half_machine.specs.Marks.{mark_of}
+use Rattle.half_machine.specs.Room.{OfRoom}
 use Rattle.half_machine.specs.Pieces.{OfPieces, pieces_of}
 use Rattle.half_machine.specs.declared.facts.Arrived.{Arrived}
 use Rattle.half_machine.specs.declared.facts.Ruled.{Ruled}
@@ -121,6 +122,7 @@ pub record Ties (c : CourseConfig) (d : Direction) (p : Progress) (x : Half) : T
   pub counts : OfCounts x.counts d p.course p.taken.body
   pub gone : OfGone x.gone p
   pub hold : OfHold x.hold c d p.course p.taken.body
+  pub room : OfRoom x.hold c p.course.modes.headers p.course.asks p.course.original.body p.course.released
   pub pieces : OfPieces x.pieces (pieces_of d p.course) p.taken.body
   pub pieces_fit : x.counts.pieces ≤ 4_294_967_295
   pub marks : x.marks ≡ map mark_of (out p.course)
@@ -132,7 +134,7 @@ pub record Ties (c : CourseConfig) (d : Direction) (p : Progress) (x : Half) : T
   pub sound : Sound c p.course
 
 -- the sizes of the product, and what the half was made with
-pub record IsMade (c : CourseConfig) (d : Direction) (most : ℕ) (allowed : Rules) (way : Direction) (held : ℕ) : Type 0 where
+pub record IsMade (c : CourseConfig) (d : Direction) (most : ℕ) (allowed : Rules) (way : Direction) (held answer : ℕ) : Type 0 where
   pub piece : c.piece ≡ 16_384
   pub mark : c.mark ≡ 65_536
   pub limit : c.buffer_limit ≡ most
@@ -140,9 +142,10 @@ pub record IsMade (c : CourseConfig) (d : Direction) (most : ℕ) (allowed : Rul
   pub rules : c.rules ≡ allowed
   pub direction : d ≡ way
   pub hold : held ≡ most
+  pub answers : c.answer_limit ≡ answer
 
 abbrev pub MadeWith : CourseConfig → Direction → Half → Type 0
-MadeWith c d x = IsMade c d x.limit x.rules x.direction x.hold.limit
+MadeWith c d x = IsMade c d x.limit x.rules x.direction x.hold.limit x.hold.answer
 
 pub record StandsFor (p : Past) (x : Half) : Type 0 where
   pub made : MadeWith p.config p.direction x
@@ -162,4 +165,5 @@ pub record FitsSetup (c : CourseConfig) (setup : HalfSetup) : Type 0 where
   pub piece : c.piece ≡ 16_384
   pub mark : c.mark ≡ 65_536
   pub limit : c.buffer_limit ≡ setup.buffer_limit
+  pub answer : c.answer_limit ≡ setup.answer_limit
   pub rules : c.rules ≡ setup.rules

@@ -1,6 +1,7 @@
 //! How a half makes the asks that are due and permitted.
 
 ghost use Rattle.std.specs.Prelude.{◌≡◌, min};
+ghost use Rattle.half_machine.specs.Choosing.{IsChosen};
 ghost use Rattle.half_machine.specs.Asking.{queued, may_ask, with_due, one_asked_in, CanMake, Tied, passes};
 
 use crate::due::{Due, is_passing, lent_by, made_with, mark_for, next_due};
@@ -53,7 +54,7 @@ impl Half {
     }
 
     pub(crate) fn ask_one(&mut self)
-        requires { Tied self.old }
+        requires { Tied self.old × IsChosen self.old }
         ensures { self.new ≡ one_asked_in self.old }
     {
         if !self.may_ask() {

@@ -1,9 +1,9 @@
 //! What a half is told.
 
 ghost use Rattle.std.specs.Prelude.{◌≡◌};
-ghost use Rattle.filter_model.specs.Half.{Past, after_step, Told, Settle, Head as HeadCame, Sent as OneSent, Given as SoManyGiven, Bytes as BytesCame, End as EndCame};
+ghost use Rattle.filter_model.specs.Half.{Past, after_step, Told, Settle, Release, Head as HeadCame, Sent as OneSent, Given as SoManyGiven, Bytes as BytesCame, End as EndCame};
 ghost use Rattle.half_machine.specs.Stands.{StandsFor, Stands};
-ghost use Rattle.half_machine.specs.Calls.{MayHead, MaySettle, settled_in, MaySent, MayGiven, MayBytes, CanTake, with_bytes};
+ghost use Rattle.half_machine.specs.Calls.{MayHead, MaySettle, settled_in, MaySent, MayGiven, MayBytes, CanTake, with_bytes, CanRelease, released_in};
 
 use crate::facts::is_bodiless;
 use crate::half::Half;
@@ -93,6 +93,27 @@ impl Half {
         self.arrived.trailers = !trailers.is_empty();
         self.trailers = trailers;
         self.go_on();
+    }
+
+    /// That the rest passes: nothing more is asked, and what wasn't answered goes on as it was.
+    pub fn release(&mut self)
+        requires { Stands self.old (λ p. Unit {0}) }
+        ensures { (p : Past) → StandsFor p self.old → StandsFor (after_step (Told Release) p) self.new }
+    {
+        self.let_pass();
+        self.go_on();
+    }
+
+    // What is lent goes out too, unless another body took the place of all.
+    fn let_pass(&mut self)
+        requires { CanRelease self.old }
+        ensures { self.new ≡ released_in self.old }
+    {
+        if !self.rule.released && !self.rule.replaced {
+            self.counts.unasked += self.hold.lent();
+            self.hold.pass_lent();
+        }
+        self.rule.released = true;
     }
 
     // Bytes that come where another body took the place of theirs are dropped.

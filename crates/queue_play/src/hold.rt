@@ -50,6 +50,7 @@ fn change(alloc: Global, hold: &mut Hold, call: &str, operand: &str) -> Result<(
         "replace" => back(hold, Change::Replace(Blob::of(alloc, operand.as_bytes())?)),
         "clear" => back(hold, Change::Clear),
         "pass" => pass(hold, operand.parse::<u32>()?),
+        "pass-lent" => pass_lent(hold),
         "take" => take(hold, operand.parse::<u32>()?),
         _ => bail!("no call: {call}"),
     }
@@ -114,6 +115,19 @@ fn pass(hold: &mut Hold, n: u32) -> Result<()>
         bail!("fewer bytes at hand, or too many");
     }
     hold.pass(n);
+    Ok(())
+}
+
+fn pass_lent(hold: &mut Hold) -> Result<()>
+    requires limit { hold.old.limit ≡ 16 }
+    requires answer { hold.old.answer ≡ 1024 }
+    ensures limit { hold.new.limit ≡ 16 }
+    ensures answer { hold.new.answer ≡ 1024 }
+{
+    if hold.lent() as usize > MOST || hold.out_len() as usize > MOST {
+        bail!("too many bytes");
+    }
+    hold.pass_lent();
     Ok(())
 }
 

@@ -8,4 +8,4 @@ make-requires c =
     let x = c.args.self.now in
     let y : may_ask x ≡ true = search rules in
     let e : due_of x ≡ Some c.in-Some.due = search rules in
-    can_make c.requires.0 c.requires.1 c.requires.2 x c.in-Some.due c.requires.3 c.requires.4 y e
+    can_make c.requires.0.0 c.requires.0.1 c.requires.0.2 x c.in-Some.due c.requires.0.3 c.requires.0.4 y e

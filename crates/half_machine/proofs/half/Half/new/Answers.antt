@@ -1,8 +1,8 @@
-use Rattle.std.proofs.Common.{refl, ap, sym, arith}
+use Rattle.std.proofs.Common.{refl, ap, sym, ◌∙◌, arith}
 use Rattle.body_hold.specs.Held.{Held}
 use Rattle.http_model.specs.declared.types.Direction.{Direction}
 use Rattle.half_machine.specs.Stands.{direction_of}
-use Rattle.half_machine.proofs.Fresh.{fresh_sound, fresh_kept, fresh_unasked, fresh_hold}
+use Rattle.half_machine.proofs.Fresh.{fresh_sound, fresh_kept, fresh_unasked, fresh_hold, fresh_room}
 use Rattle.half_machine.proofs.PiecesLeft.{fresh_pieces}
 use Rattle.half_machine.proofs.half.Half.new.Goals as goal
 
@@ -20,6 +20,7 @@ returns c config f =
         rules = f.rules;
         direction = sym c.direction.ensures;
         hold = ap (λ (h : Held). h.limit) c.in_ok-hold.ensures;
+        answers = f.answer ∙ sym (ap (λ (h : Held). h.answer) c.in_ok-hold.ensures);
       };
       ties = record {
         arrived = record { head = refl; framed = refl; own = λ h e. absurd cc; whole = refl; trailers = refl; bytes = refl; bare = λ e. refl; unread = λ e. (refl, refl) };
@@ -28,6 +29,7 @@ returns c config f =
         counts = record { unasked = sym (fresh_unasked d modes); pieces = refl; waiting = refl };
         gone = record { framing = refl; head = refl; trailers = refl; ended = refl; early = λ e. refl };
         hold = fresh_hold config d modes c.in_ok-hold.hold c.args.setup.buffer_limit c.args.setup.answer_limit c.in_ok-hold.ensures;
+        room = fresh_room config modes.headers c.in_ok-hold.hold c.args.setup.buffer_limit c.args.setup.answer_limit c.in_ok-hold.ensures;
         pieces = fresh_pieces d modes c.new-3.result c.new-3.ensures;
         pieces_fit = omega arith;
         marks = c.in_ok-marks.ensures;
