@@ -5,7 +5,7 @@ use Rattle.filter_model.specs.Half.{Past, course, progress}
 use Rattle.http_model.specs.declared.types.Out.{Out}
 use Rattle.http_model.specs.declared.types.Out.TheVariants as part
 use Rattle.half_machine.specs.Stands.{StandsFor}
-use Rattle.half_driver.specs.declared.driver.Driver.{Driver}
+use Rattle.half_machine.specs.declared.half.Half.{Half}
 
 pub record Follows (read unfinished : Bool) (unsent waiting : ℕ) (p : Past) : Type 0 where
   pub unread : read ≡ false → (course p).original.head ≡ None
@@ -16,8 +16,8 @@ pub record Follows (read unfinished : Bool) (unsent waiting : ℕ) (p : Past) : 
   pub sends : (course p).sent + unsent ≤ (progress p).handed
   pub gives : (course p).given + waiting ≤ (progress p).taken.body
 
-abbrev pub Driving : Driver → Type 0
-Driving x = (p : Past) × StandsFor p x.half × Follows x.read x.unfinished x.unsent x.waiting p
+abbrev pub Driving : Half → Bool → Bool → ℕ → ℕ → Type 0
+Driving x read unfinished unsent waiting = (p : Past) × StandsFor p x × Follows read unfinished unsent waiting p
 
 abbrev pub size_of : Out → ℕ
 size_of (part.Data bytes) = length bytes

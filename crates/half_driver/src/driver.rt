@@ -1,8 +1,8 @@
 //! A half, and what it needs to know for its calls.
 
-ghost use Rattle.std.specs.Prelude.{◌≡◌, IfOk};
+ghost use Rattle.std.specs.Prelude.{◌≡◌};
 ghost use Rattle.http_model.specs.Heads.{is_bodiless};
-ghost use Rattle.half_driver.specs.Driving.{Driving, size_of};
+ghost use Rattle.half_driver.specs.Driving.{size_of};
 
 use crate::fault::DriveFault;
 use ext_msgs::{Ask, FieldList, PartModes};
@@ -10,8 +10,9 @@ use half_machine::Half;
 use header_mutation::HalfSetup;
 use http_model::{Length, Out};
 use std::alloc::Global;
+use std::marker::Model;
 
-/// A half, each of whose calls is tested for its condition first. After want of memory it isn't used any more.
+/// A half, each of whose calls is tested for its condition first.
 #[derive(Drop)]
 pub struct Driver {
     half: Half,
@@ -23,6 +24,17 @@ pub struct Driver {
     unsent: u32,
     // Body bytes that were handed out and not given.
     waiting: u64,
+}
+
+impl Model for Driver {
+    ghost use Rattle.half_machine.specs.declared.half.Half.{Half};
+    ghost use Rattle.half_driver.specs.Driving.{Driving};
+
+    ghost Value = { Half };
+
+    ghost view = { λ d. d.half };
+
+    ghost invariant = { λ d. Driving d.half d.read d.unfinished d.unsent d.waiting };
 }
 
 // The head alone says that there is no body.
@@ -48,9 +60,7 @@ fn size_of(out: &Out) -> u64
 
 impl Driver {
     /// A half that was told nothing.
-    pub fn new(alloc: Global, setup: HalfSetup) -> Result<Driver, DriveFault>
-        ensures { IfOk result (λ x. Driving x) }
-    {
+    pub fn new(alloc: Global, setup: HalfSetup) -> Result<Driver, DriveFault> {
         if setup.buffer_limit < 1 || setup.buffer_limit > 1_048_576 {
             return Err(DriveFault::NotNow);
         }
@@ -68,10 +78,7 @@ impl Driver {
     }
 
     /// Other modes, before the head.
-    pub fn settle(&mut self, modes: PartModes) -> Result<(), DriveFault>
-        requires { Driving self.old }
-        ensures { IfOk result (λ x. Driving self.new) }
-    {
+    pub fn settle(&mut self, modes: PartModes) -> Result<(), DriveFault> {
         if self.read {
             return Err(DriveFault::NotNow);
         }
@@ -80,10 +87,7 @@ impl Driver {
     }
 
     /// Its head, once.
-    pub fn head(&mut self, fields: FieldList, length: Length) -> Result<(), DriveFault>
-        requires { Driving self.old }
-        ensures { IfOk result (λ x. Driving self.new) }
-    {
+    pub fn head(&mut self, fields: FieldList, length: Length) -> Result<(), DriveFault> {
         if self.read {
             return Err(DriveFault::NotNow);
         }
@@ -94,10 +98,7 @@ impl Driver {
     }
 
     /// Body bytes, as many as there is room for.
-    pub fn data(&mut self, bytes: &[u8]) -> Result<(), DriveFault>
-        requires { Driving self.old }
-        ensures { IfOk result (λ x. Driving self.new) }
-    {
+    pub fn data(&mut self, bytes: &[u8]) -> Result<(), DriveFault> {
         if !self.unfinished || bytes.len() > self.half.room() as usize {
             return Err(DriveFault::NotNow);
         }
@@ -106,10 +107,7 @@ impl Driver {
     }
 
     /// The last body bytes, and the trailers.
-    pub fn end(&mut self, bytes: &[u8], trailers: FieldList) -> Result<(), DriveFault>
-        requires { Driving self.old }
-        ensures { IfOk result (λ x. Driving self.new) }
-    {
+    pub fn end(&mut self, bytes: &[u8], trailers: FieldList) -> Result<(), DriveFault> {
         if !self.unfinished || bytes.len() > self.half.room() as usize {
             return Err(DriveFault::NotNow);
         }
@@ -119,18 +117,12 @@ impl Driver {
     }
 
     /// The rest passes.
-    pub fn release(&mut self)
-        requires { Driving self.old }
-        ensures { Driving self.new }
-    {
+    pub fn release(&mut self) {
         self.half.release();
     }
 
     /// The next ask that is handed out.
-    pub fn next_ask(&mut self) -> Result<Option<Ask>, DriveFault>
-        requires { Driving self.old }
-        ensures { IfOk result (λ x. Driving self.new) }
-    {
+    pub fn next_ask(&mut self) -> Result<Option<Ask>, DriveFault> {
         let Some(ask) = self.half.next_ask()? else {
             return Ok(None);
         };
@@ -139,10 +131,7 @@ impl Driver {
     }
 
     /// One of those that were handed out was sent.
-    pub fn sent(&mut self) -> Result<(), DriveFault>
-        requires { Driving self.old }
-        ensures { IfOk result (λ x. Driving self.new) }
-    {
+    pub fn sent(&mut self) -> Result<(), DriveFault> {
         if self.unsent == 0 {
             return Err(DriveFault::NotNow);
         }
@@ -152,10 +141,7 @@ impl Driver {
     }
 
     /// The next part of the message that goes out.
-    pub fn next_out(&mut self, max: u32) -> Result<Out, DriveFault>
-        requires { Driving self.old }
-        ensures { IfOk result (λ x. Driving self.new) }
-    {
+    pub fn next_out(&mut self, max: u32) -> Result<Out, DriveFault> {
         if max == 0 {
             return Err(DriveFault::NotNow);
         }
@@ -165,10 +151,7 @@ impl Driver {
     }
 
     /// So many of the body bytes that were handed out were given.
-    pub fn given(&mut self, n: u32) -> Result<(), DriveFault>
-        requires { Driving self.old }
-        ensures { IfOk result (λ x. Driving self.new) }
-    {
+    pub fn given(&mut self, n: u32) -> Result<(), DriveFault> {
         let size = u64::from(n);
         if size > self.waiting {
             return Err(DriveFault::NotNow);

@@ -3,12 +3,12 @@ use Rattle.filter_model.specs.Half.{Given, Told, after_step}
 use Rattle.half_driver.proofs.Driven.{given}
 use Rattle.half_driver.proofs.driver.Driver.given.Goals as goal
 
-pub returns : goal.returns
-returns c =
-    let x = c.args.self.now in
-    let p = c.requires.0 in
-    let s = c.requires.1 in
-    let f = c.requires.2 in
+pub invariant_of-self : goal.invariant_of-self
+invariant_of-self c =
+    let x = c.self.inside in
+    let p = c.self.invariant.0 in
+    let s = c.self.invariant.1 in
+    let f = c.self.invariant.2 in
     let g = f.gives in
     let few : c.from-size.result ≤ x.waiting = search rules in
     let same : c.from-size.result ≡ c.args.n = c.from-size.ensures in

@@ -5,12 +5,12 @@ use Rattle.half_driver.specs.Driving.{Follows}
 use Rattle.half_driver.proofs.Driven.{headed}
 use Rattle.half_driver.proofs.driver.Driver.head.Goals as goal
 
-pub returns : goal.returns
-returns c =
-    let x = c.args.self.now in
-    let p = c.requires.0 in
-    let s = c.requires.1 in
-    let f = c.requires.2 in
+pub invariant_of-self : goal.invariant_of-self
+invariant_of-self c =
+    let x = c.self.inside in
+    let p = c.self.invariant.0 in
+    let s = c.self.invariant.1 in
+    let f = c.self.invariant.2 in
     let h = c.args.fields in
     let n = c.args.length in (
       after_step (Told (Head h n)) p,

@@ -4,8 +4,8 @@ use Rattle.half_machine.specs.Stands.{direction_of}
 use Rattle.half_driver.proofs.Driven.{fresh}
 use Rattle.half_driver.proofs.driver.Driver.new.Goals as goal
 
-pub returns : goal.returns
-returns c =
+pub invariant_of-result : goal.invariant_of-result
+invariant_of-result c =
     let setup = c.args.setup in
     let config : CourseConfig = record { rules = setup.rules; buffer_limit = setup.buffer_limit; answer_limit = setup.answer_limit; piece = 16_384; mark = 65_536 } in (
       record { config = config; direction = direction_of setup.response; modes = setup.modes; steps = [] },
