@@ -1,5 +1,5 @@
 -- What a message becomes only grows: each wire of the earlier one has a wire of the later one with the same prefix.
-use Rattle.std.proofs.Common.{inl, inr, sym, ◌∙◌, ap, subst, append_assoc, append-nil, refl, arith}
+use Rattle.std.proofs.Common.{inl, inr, sym, ◌∙◌, ap, subst, append-nil, refl, arith}
 use Rattle.std.proofs.lemmas.Grind.{flat_map-append}
 use Rattle.std.proofs.lemmas.List.Elements.{filter-append}
 use Rattle.std.specs.List.{AllByRecursion}
@@ -41,38 +41,38 @@ grown_same m m' e = inr (inl e)
 
 -- Prefixes
 
-body_bytes-append : (f : Framing) (xs ys : List (List ℕ)) → body_bytes f (xs ++ ys) ≡ body_bytes f xs ++ body_bytes f ys
+pub body_bytes-append : (f : Framing) (xs ys : List (List ℕ)) → body_bytes f (xs ++ ys) ≡ body_bytes f xs ++ body_bytes f ys
 body_bytes-append NoField xs ys = flat_map-append (λ p. p) xs ys
 body_bytes-append (Length n) xs ys = flat_map-append (λ p. p) xs ys
 body_bytes-append Chunked xs ys =
     ap (flat_map chunk_bytes) (filter-append (λ p. not (is_empty p)) xs ys)
     ∙ flat_map-append chunk_bytes (filter (λ p. not (is_empty p)) xs) (filter (λ p. not (is_empty p)) ys)
 
-body_bytes-prefix : (f : Framing) (xs ys : List (List ℕ)) → IsPrefix xs ys → IsPrefix (body_bytes f xs) (body_bytes f ys)
+pub body_bytes-prefix : (f : Framing) (xs ys : List (List ℕ)) → IsPrefix xs ys → IsPrefix (body_bytes f xs) (body_bytes f ys)
 body_bytes-prefix f xs ys p = record { rest = body_bytes f p.rest; whole = sym (body_bytes-append f xs p.rest) ∙ ap (body_bytes f) p.whole }
 
 -- Cuts
 
-abbrev Sizes : List (List ℕ) → Type 0
+abbrev pub Sizes : List (List ℕ) → Type 0
 Sizes cuts = AllByRecursion (λ p. (0 < length p) × (length p ≤ passing_limit)) cuts
 
-abbrev singles : List ℕ → List (List ℕ)
+abbrev pub singles : List ℕ → List (List ℕ)
 singles [] = []
 singles (x ∷ xs) = (x ∷ []) ∷ singles xs
 
-singles-whole : (xs : List ℕ) → flat_map (λ p. p) (singles xs) ≡ xs
+pub singles-whole : (xs : List ℕ) → flat_map (λ p. p) (singles xs) ≡ xs
 singles-whole [] = refl
 singles-whole (x ∷ xs) = ap (λ l. x ∷ l) (singles-whole xs)
 
-singles-sizes : (xs : List ℕ) → Sizes (singles xs)
+pub singles-sizes : (xs : List ℕ) → Sizes (singles xs)
 singles-sizes [] = tt
 singles-sizes (x ∷ xs) = (((omega arith), (omega arith)), singles-sizes xs)
 
-sizes-append : (xs ys : List (List ℕ)) → Sizes xs → Sizes ys → Sizes (xs ++ ys)
+pub sizes-append : (xs ys : List (List ℕ)) → Sizes xs → Sizes ys → Sizes (xs ++ ys)
 sizes-append [] ys p q = q
 sizes-append (x ∷ xs) ys p q = (p.0, sizes-append xs ys p.1 q)
 
-no_cuts : (cuts : List (List ℕ)) → Sizes cuts → flat_map (λ p. p) cuts ≡ [] → cuts ≡ []
+pub no_cuts : (cuts : List (List ℕ)) → Sizes cuts → flat_map (λ p. p) cuts ≡ [] → cuts ≡ []
 no_cuts [] s e = refl
 no_cuts ([] ∷ cuts) s e = absurd (omega (arith, s.0.0))
 no_cuts ((x ∷ xs) ∷ cuts) s e = absurd (cons_is_not_none x (xs ++ flat_map (λ p. p) cuts) e)
@@ -101,7 +101,7 @@ written-prefix d (Some head) m m' cuts cuts' u p =
     before_both (head_bytes d head.fields head.framing) (written_behind head.framing m cuts) (written_behind head.framing m' cuts') (behind-prefix head.framing m m' cuts cuts' u p)
 
 -- the cuts of a message that goes on
-cuts_on : (m m' : Changed) → BodyGoesOn m m' → (cuts : List (List ℕ)) → Sizes cuts → flat_map (λ p. p) cuts ≡ m.passing
+pub cuts_on : (m m' : Changed) → BodyGoesOn m m' → (cuts : List (List ℕ)) → Sizes cuts → flat_map (λ p. p) cuts ≡ m.passing
     → (cuts' : List (List ℕ)) × Sizes cuts' × (flat_map (λ p. p) cuts' ≡ m'.passing) × IsPrefix (m.pieces ++ cuts) (m'.pieces ++ cuts')
 cuts_on m m' (inl (e, p)) cuts s w = (
   singles m'.passing,

@@ -1,6 +1,6 @@
 -- What a step leaves as it was: bytes brought and given, what was read, the end of the stream; and the asks that were made.
-use Rattle.std.proofs.Common.{sym, ◌∙◌, ap, append_assoc, append-nil}
-use Rattle.std.specs.Prelude.{◌≡◌, ◌&&◌, ◌||◌, Bool, true, false, List, [], ◌++◌, Option, Some, None, refl, map, drop, length, is_none, if◌then◌else◌}
+use Rattle.std.proofs.Common.{sym, ◌∙◌, append-nil}
+use Rattle.std.specs.Prelude.{◌≡◌, ◌&&◌, ◌||◌, Bool, true, false, List, [], Option, Some, None, refl, map, drop, length, is_none, if◌then◌else◌}
 use Rattle.ext_msgs.specs.declared.answer.Answer.{Answer}
 use Rattle.ext_msgs.specs.declared.answer.ModeNumbers.{ModeNumbers}
 use Rattle.ext_msgs.specs.declared.answer.Span.{Span}

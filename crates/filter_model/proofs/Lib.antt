@@ -18,3 +18,5 @@ pub mod Ended
 pub mod WholeAlong
 pub mod EachStep
 pub mod DoneStays
+pub mod HalfGrows
+pub mod HalfWritten

@@ -64,7 +64,7 @@ goes_nowhere c a a' h e f = record {
 -- Choosing heads
 
 -- the counts of what was sent and given change nothing of the message
-counts_same : (c : CourseConfig) (d : Direction) (w : Course) (n m : ℕ) → Sound c w
+pub counts_same : (c : CourseConfig) (d : Direction) (w : Course) (n m : ℕ) → Sound c w
     → Grown (changed c d w) (changed c d (record w { sent = n; given = m })) × Sound c (record w { sent = n; given = m })
 unfolding course_rules
 counts_same c d w n m s = (
@@ -182,7 +182,7 @@ answers_one kind b (q ∷ more) k e = (q, more, refl, by (kind q) e)
     by false e = absurd cc
 
 -- once the answer has joined, with the modes that come with it
-no_head_yet : (c : CourseConfig) (w : Course) → Sound c w → w.released ≡ false → list_any is_headers (out w) ≡ true → w.head ≡ None
+pub no_head_yet : (c : CourseConfig) (w : Course) → Sound c w → w.released ≡ false → list_any is_headers (out w) ≡ true → w.head ≡ None
 no_head_yet c w s r t = by w.head refl
   where
     clash : true ≡ false → ⊥
@@ -377,25 +377,25 @@ pub step_goes : (c : FilterConfig) (e : ViewEntry) (a : ExchangeAccount) → Hel
 unfolding step
 step_goes c e a h r = step_if_goes c e a (is_live a.fate) h r
 
+pub fresh_sound : (c : CourseConfig) (m : PartModes) → Sound c (fresh_course m)
+fresh_sound c m = record {
+  counts = omega arith;
+  head_read = λ n. (refl, refl);
+  bodiless = λ n. refl;
+  once_headers = refl;
+  once_trailers = refl;
+  headers = λ e. refl;
+  trailers = λ e. absurd cc;
+  in_turn = λ e. refl;
+  covered = λ b e. absurd cc;
+  no_headers = λ h e r. refl;
+  first_made = λ h e r. absurd cc;
+}
+
 pub held_first : (c : FilterConfig) → Held c (start c)
 held_first c = record {
-  request = first c.request;
-  response = first c.response;
+  request = fresh_sound c.course c.request;
+  response = fresh_sound c.course c.response;
   later = λ n. refl;
   both = refl;
 }
-  where
-    first : (m : PartModes) → Sound c.course (fresh_course m)
-    first m = record {
-      counts = omega arith;
-      head_read = λ n. (refl, refl);
-      bodiless = λ n. refl;
-      once_headers = refl;
-      once_trailers = refl;
-      headers = λ e. refl;
-      trailers = λ e. absurd cc;
-      in_turn = λ e. refl;
-      covered = λ b e. absurd cc;
-      no_headers = λ h e r. refl;
-      first_made = λ h e r. absurd cc;
-    }

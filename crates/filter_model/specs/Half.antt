@@ -72,6 +72,13 @@ pub record Taken : Type 0 where
   pub trailers : Bool
   pub ended : Bool
 
+-- the parts that were handed out, newest first
+abbrev pub parts : List HalfStep → List Out
+parts [] = []
+parts (Told call ∷ steps) = parts steps
+parts (Asked ∷ steps) = parts steps
+parts (Gave out ∷ steps) = out ∷ parts steps
+
 abbrev pub after_out : Out → Taken → Taken
 after_out (part.Head fields framing) t = record t { head = true }
 after_out (part.Data bytes) t = record t { body = t.body + length bytes }

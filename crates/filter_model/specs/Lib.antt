@@ -4,6 +4,7 @@ pub mod Outgoing
 pub mod Grown
 pub mod Sound
 pub mod Half
+pub mod HalfRight
 pub mod View
 pub mod Account
 pub mod Cut

@@ -5,6 +5,8 @@ ghost use Rattle.filter_model.specs.Config.{FilterConfig};
 ghost use Rattle.filter_model.specs.Course.{Changed, changed};
 ghost use Rattle.filter_model.specs.Cut.{is_whole_and_done};
 ghost use Rattle.filter_model.specs.Grown.{Grown};
+ghost use Rattle.filter_model.specs.Half.{Past, NothingDue, becomes, parts, progress};
+ghost use Rattle.filter_model.specs.HalfRight.{IsPast, written_parts};
 ghost use Rattle.filter_model.specs.Outgoing.{IsWire};
 ghost use Rattle.filter_model.specs.Right.{Call, Headline, IsHistory, account, ask_given, is_done};
 ghost use Rattle.filter_model.specs.Step.{is_live, step};
@@ -51,6 +53,15 @@ pub fn each_step()
         (a.sent ≤ (step c e a).sent) × ((step c e a).sent ≤ a.sent + 1) }
     ensures loss { (c : FilterConfig) (s : Side) (how : Loss) (a : ExchangeAccount) → is_live a.fate ≡ true →
         (step c (Lost s how) a).fate ≡ Live → (is_finished c a ≡ true) ⊎ (is_whole_and_done c a s ≡ true) }
+{}
+
+/// What was handed out in a past of one direction, written, is the first of what its message may go out as, and all of
+/// it where no part may go.
+pub fn parts_are_the_first()
+    ensures first { (p : Past) → IsPast p → (wire : List ℕ) × IsWire p.direction (becomes p) wire
+        × IsPrefix (written_parts p.direction (parts p.steps)) wire }
+    ensures all { (p : Past) → IsPast p → NothingDue (becomes p) (progress p).taken
+        → IsWire p.direction (becomes p) (written_parts p.direction (parts p.steps)) }
 {}
 
 /// Once a side is done it stays so.

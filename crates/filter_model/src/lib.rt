@@ -8,4 +8,7 @@ mod calls;
 mod laws;
 
 pub use calls::{Event, Loss, Next, Side, Taken};
-pub use laws::{asks_in_order, changed_only_grows, done_stays, each_step, headline, prefixes_stay};
+pub use laws::{
+    asks_in_order, changed_only_grows, done_stays, each_step, headline, parts_are_the_first,
+    prefixes_stay,
+};
