@@ -22,8 +22,8 @@ pub enum Behind {
 }
 
 impl Half {
-    /// The next part of what the message has become: its head, a piece of its body, which is an answered piece or from 1
-    /// to `max` bytes that pass, its trailers, or its end.
+    /// The next part of what the message has become: its head, a piece of its body, which is an answered piece or from
+    /// 1 to `max` bytes that pass, its trailers, or its end.
     pub fn next_out(&mut self, max: u32) -> Result<Out, AllocError>
         requires { 1 ≤ max }
         ensures gives { (p : Past) → StandsFor p self.old →
