@@ -2,7 +2,7 @@
 
 ghost use Rattle.std.specs.Prelude.{◌≡◌, ◌≤◌, ◌<◌, ◌+◌, [], length, All, Some, IfOk, slice_get};
 ghost use Rattle.body_hold.specs.Held.{hand_room, lent_room, out_room, joined, held};
-ghost use Rattle.body_hold.specs.Steps.{put, lend, backed, passed, lent_passed, taken, dropped, new_piece};
+ghost use Rattle.body_hold.specs.Steps.{put, lend, backed, hand_replaced, passed, lent_passed, taken, dropped, new_piece};
 
 use crate::moves::{append, piece_at, queue_of, shift};
 use pb_wire::Blob;
@@ -110,6 +110,15 @@ impl Hold {
             }
             Change::Clear => self.lent.drop_front(n),
         }
+    }
+
+    /// These bytes go out in place of those at hand.
+    pub fn replace_hand(&mut self, body: &[u8])
+        requires { length self.old.out + length body.now ≤ out_room self.old.limit self.old.answer }
+        ensures { self.new ≡ hand_replaced body.now self.old }
+    {
+        self.hand.drop_front(self.hand.len());
+        append(&mut self.out, body);
     }
 
     /// The first n bytes at hand go out without an ask.

@@ -1,6 +1,6 @@
 -- What is known of the asks of a body stays true.
 use Rattle.std.proofs.Common.{inl, inr, refl, sym, ◌∙◌, ap}
-use Rattle.std.specs.Prelude.{ℕ, ◌≡◌, ◌⊎◌, ◌≤◌, Bool, true, false, not, ◌&&◌, ◌||◌, List, ◌∷◌, ◌++◌, Some, None, [], length, find, Option, is_some, is_none, option_map, if◌then◌else◌}
+use Rattle.std.specs.Prelude.{ℕ, ◌≡◌, ◌⊎◌, ◌≤◌, Bool, true, false, not, ◌&&◌, ◌||◌, List, ◌∷◌, ◌++◌, Some, None, [], length, zip, find, filter_map, Option, is_some, is_none, option_map, if◌then◌else◌}
 use Rattle.std.specs.List.{list_any}
 use Rattle.ext_msgs.specs.declared.lists.Field.{Field}
 use Rattle.ext_msgs.specs.declared.answer.Common.{Common}
@@ -11,7 +11,7 @@ use Rattle.http_model.specs.Heads.{is_bodiless}
 use Rattle.http_model.specs.declared.types.Direction.{Direction}
 use Rattle.http_model.specs.declared.types.Length.{Length}
 use Rattle.filter_model.specs.Config.{CourseConfig}
-use Rattle.filter_model.specs.Course.{Course, AskedPart, Outgoing, committed, is_body, is_buffered, is_headers, is_stopped, answer_to, pairs, replaces}
+use Rattle.filter_model.specs.Course.{Course, AskedPart, Headers, Body, Trailers, Outgoing, committed, is_body, is_buffered, is_headers, is_stopped, answer_to, answered_piece, pairs, replaces}
 use Rattle.filter_model.specs.Account.{fresh_course}
 use Rattle.filter_model.specs.Sound.{once}
 use Rattle.filter_model.proofs.CourseGrows.{any_same, with_ask, zip_longer}
@@ -29,6 +29,13 @@ pub answer_stays : (kind : AskedPart → Bool) (w : Course) (q : AskedPart) → 
 answer_stays kind w q n = ap (λ l. option_map (λ (q : AskedPart × Common). q.1) (find (λ (q : AskedPart × Common). kind q.0) l)) (pairs_stay w q n)
 
 -- Before anything of the body is asked
+
+pub no_pieces : (asks : List AskedPart) (answers : List Common) → list_any is_body asks ≡ false → filter_map answered_piece (zip asks answers) ≡ []
+no_pieces [] answers e = refl
+no_pieces (p ∷ asks) [] e = refl
+no_pieces (Headers f l ∷ asks) (a ∷ answers) e = no_pieces asks answers e
+no_pieces (Body b l ∷ asks) (a ∷ answers) e = absurd (clash e)
+no_pieces (Trailers f ∷ asks) (a ∷ answers) e = no_pieces asks answers e
 
 pub fresh_asks : (modes : PartModes) → BodyAsks (fresh_course modes)
 fresh_asks modes = record { single = λ b. refl; there = λ e. refl; going = λ e. absurd cc; waits = λ o e. absurd cc }

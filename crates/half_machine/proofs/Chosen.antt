@@ -153,6 +153,7 @@ chosen c d p x h m t n e f = record {
   room = t.room;
   pieces = t.pieces;
   pieces_fit = t.pieces_fit;
+  pieces_room = t.pieces_room;
   marks = t.marks;
   head = t.head;
   fields = λ o z. t.head ∙ ap (option_map (changed_head c d p.course)) e ∙ ap (option_map (λ (o : Outgoing). o.fields)) (sym f ∙ z);

@@ -20,6 +20,7 @@ use Rattle.filter_model.proofs.CourseGrows.{none_of_kind, any_of_drop}
 use Rattle.filter_model.proofs.Sounds.{read_sound}
 use Rattle.half_machine.specs.Facts.{collects_in}
 use Rattle.half_machine.specs.Stands.{AreKept, OfOriginal, OfHold, MadeWith, Ties, StandsFor, piece_bytes, left_hand, flow}
+use Rattle.half_machine.specs.Room.{most_back}
 use Rattle.half_machine.specs.Calls.{MayBytes, CanTake, bytes_more, unasked_more, hold_more, with_bytes}
 use Rattle.half_machine.specs.Choosing.{Holds}
 use Rattle.half_machine.specs.declared.facts.Arrived.{Arrived}
@@ -258,6 +259,7 @@ read_holds p x b ts e a f s m n k o g =
         room = room_put x.hold c w.modes.headers w.asks w.original.body b w.released x.rule.replaced t.room;
         pieces = t.pieces;
         pieces_fit = t.pieces_fit;
+        pieces_room = pieces_put x.rule.replaced;
         marks = t.marks;
         head = t.head;
         fields = t.fields;
@@ -272,6 +274,11 @@ read_holds p x b ts e a f s m n k o g =
   where
     clash : true ≡ false → ⊥
     clash e = cc
+
+    pieces_put : (q : Bool) → (course p).released ≡ false
+        → x.counts.pieces + most_back p.config.answer_limit (if q then x.hold else put b x.hold).lent ≤ p.config.buffer_limit + p.config.answer_limit * 4 + 131_072
+    pieces_put true r = s.ties.pieces_room r
+    pieces_put false r = s.ties.pieces_room r
 
     read_made : (q : Bool) → MadeWith p.config p.direction (record x { hold = if q then x.hold else put b x.hold })
     read_made true = s.made
@@ -321,7 +328,7 @@ none_out p x s u = by (list_any is_trailers (out (course p))) refl
     by true e = absurd (clash (sym (any_of_drop is_trailers (course p).asks (course p).answers e) ∙ no_trailers p x s u))
     by false e = e
 
-other_trailers : (head : Option (List Field)) (n : Length) (old new : List Field) (asks : List AskedPart) → list_any is_trailers asks ≡ false → AreKept head n old asks → AreKept head n new asks
+pub other_trailers : (head : Option (List Field)) (n : Length) (old new : List Field) (asks : List AskedPart) → list_any is_trailers asks ≡ false → AreKept head n old asks → AreKept head n new asks
 other_trailers head n old new [] e k = tt
 other_trailers head n old new (Headers f l ∷ asks) e k = (k.0, other_trailers head n old new asks e k.1)
 other_trailers head n old new (Body b l ∷ asks) e k = (tt, other_trailers head n old new asks e k.1)

@@ -1,6 +1,6 @@
 -- A half that was told nothing.
 use Rattle.std.proofs.Common.{refl, sym, ◌∙◌, subst, arith}
-use Rattle.std.specs.Prelude.{ℕ, ◌≡◌, Bool, true, false, [], is_some, if◌then◌else◌}
+use Rattle.std.specs.Prelude.{ℕ, ◌≡◌, Bool, true, false, [], is_some, if◌then◌else◌, ◌+◌, ◌*◌, ◌≤◌}
 use Rattle.ext_msgs.specs.declared.modes.PartModes.{PartModes}
 use Rattle.http_model.specs.declared.types.Direction.{Direction}
 use Rattle.http_model.specs.declared.types.Direction.TheVariants.{Request, Response}
@@ -9,7 +9,7 @@ use Rattle.filter_model.specs.Config.{CourseConfig}
 use Rattle.filter_model.specs.Course.{replacement, unasked, is_passing}
 use Rattle.filter_model.specs.Account.{fresh_course}
 use Rattle.filter_model.specs.Sound.{Sound}
-use Rattle.half_machine.specs.Room.{OfRoom}
+use Rattle.half_machine.specs.Room.{OfRoom, most_back}
 use Rattle.half_machine.specs.Stands.{OfHold, flow}
 
 pub fresh_sound : (c : CourseConfig) (modes : PartModes) → Sound c (fresh_course modes)
@@ -72,3 +72,7 @@ fresh_roomy c headers limit answer = record {
 pub fresh_room : (c : CourseConfig) (headers : Bool) (h : Held) (limit answer : ℕ)
     → h ≡ record { limit = limit; answer = answer; hand = []; lent = []; out = [] } → OfRoom h c headers [] [] false
 fresh_room c headers h limit answer e = subst (λ x. OfRoom x c headers [] [] false) (sym e) (fresh_roomy c headers limit answer)
+
+pub fresh_pieces_room : (c : CourseConfig) (h : Held) (limit answer : ℕ) → h ≡ record { limit = limit; answer = answer; hand = []; lent = []; out = [] }
+    → false ≡ false → 0 + most_back c.answer_limit h.lent ≤ c.buffer_limit + c.answer_limit * 4 + 131_072
+fresh_pieces_room c h limit answer e r = subst (λ (x : Held). 0 + most_back c.answer_limit x.lent ≤ c.buffer_limit + c.answer_limit * 4 + 131_072) (sym e) (omega arith)

@@ -334,6 +334,7 @@ out_ties c d p x o max n m t h e y u = record {
   room = room_dropped x.hold c p.course.modes.headers p.course.asks p.course.original.body p.course.released n t.room;
   pieces = pieces x.pieces refl;
   pieces_fit = t.pieces_fit;
+  pieces_room = t.pieces_room;
   marks = t.marks;
   head = t.head;
   fields = t.fields;
@@ -421,6 +422,7 @@ hand_ties c d p x o max n m t h f z q e y u = record {
   pieces = subst (λ l. OfPieces l (pieces_of d p.course) (p.taken.body + n)) (sym f)
       (passed_pieces (pieces_of d p.course) p.taken.body n (subst (λ l. OfPieces l (pieces_of d p.course) p.taken.body) f t.pieces));
   pieces_fit = t.pieces_fit;
+  pieces_room = t.pieces_room;
   marks = t.marks;
   head = t.head;
   fields = t.fields;

@@ -102,6 +102,7 @@ head_stands p x fields framing s =
         room = t.room;
         pieces = t.pieces;
         pieces_fit = t.pieces_fit;
+        pieces_room = t.pieces_room;
         marks = t.marks;
         head = t.head;
         fields = t.fields;

@@ -38,7 +38,7 @@ later h n t b lent mark.Headers k = refl
 later h n t b lent (mark.Body last) k = refl
 later h n t b lent mark.Trailers k = refl
 
-part_is : (h : Option (List Field)) (n : Length) (t : List Field) (asks : List AskedPart) (i : ℕ) (m : Mark) → AreKept h n t asks → slice_get (map mark_of asks) i ≡ Some m
+pub part_is : (h : Option (List Field)) (n : Length) (t : List Field) (asks : List AskedPart) (i : ℕ) (m : Mark) → AreKept h n t asks → slice_get (map mark_of asks) i ≡ Some m
     → slice_get asks i ≡ Some (part_from h n t (map bytes_in (filter is_body asks)) m (length (filter is_body (take i asks))))
 part_is h n t [] i m k e = absurd cc
 part_is h n t (Headers f l ∷ asks) zero m k e =
@@ -179,6 +179,7 @@ handed_ties p x y s u l o r =
         room = t.room;
         pieces = t.pieces;
         pieces_fit = t.pieces_fit;
+        pieces_room = t.pieces_room;
         marks = t.marks;
         head = t.head;
         fields = t.fields;

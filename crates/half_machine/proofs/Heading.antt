@@ -110,6 +110,7 @@ head_holds p x f n own bare s m e g =
         room = t.room;
         pieces = subst (λ l. OfPieces x.pieces l (progress p).taken.body) (pieces_kept d w kept ∙ sym (pieces_kept d (headed f n w) keeps)) t.pieces;
         pieces_fit = t.pieces_fit;
+        pieces_room = t.pieces_room;
         marks = t.marks;
         head = ap Some (same_head c d (headed f n w) f headers (unanswered is_body w read.1));
         fields = λ o z. absurd (none_is_not_some (ap is_some (sym z) ∙ ap is_some read.0));

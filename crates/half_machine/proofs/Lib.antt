@@ -22,3 +22,10 @@ pub mod NextData
 pub mod GivingData
 pub mod GivingParts
 pub mod GivingBehind
+pub mod Joining
+pub mod Judged
+pub mod Answered
+pub mod AnsweredBody
+pub mod AnsweredHeaders
+pub mod AnsweredTrailers
+pub mod AnswerHolds

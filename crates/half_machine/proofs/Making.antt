@@ -4,7 +4,7 @@ use Rattle.std.proofs.lemmas.List.{map-append, take-append-le, length-take-le, d
 use Rattle.std.proofs.lemmas.List.Elements.{filter-append}
 use Rattle.std.proofs.lemmas.List.Folds.{list_any-append}
 use Rattle.std.proofs.lemmas.List.Sums.{sum_by_push}
-use Rattle.std.specs.Prelude.{ℕ, ◌≡◌, ◌⊎◌, ◌+◌, ◌-◌, ◌*◌, ◌≤◌, Bool, true, false, not, ◌||◌, List, ◌∷◌, ◌++◌, Some, None, [], length, take, drop, map, filter, filter_map, flat_map, find, Option, is_some, option_map, unwrap_or, if◌then◌else◌, nat_le, nat_lt, ◌==◌, ◌&&◌}
+use Rattle.std.specs.Prelude.{ℕ, ◌≡◌, ◌⊎◌, ◌+◌, ◌-◌, ◌*◌, ◌≤◌, Bool, true, false, not, ◌||◌, List, ◌∷◌, ◌++◌, Some, None, [], length, take, drop, map, filter, filter_map, flat_map, Option, is_some, option_map, unwrap_or, if◌then◌else◌, nat_le, nat_lt, ◌==◌, ◌&&◌}
 use Rattle.std.specs.List.{list_any}
 use Rattle.ext_msgs.specs.declared.lists.Field.{Field}
 use Rattle.ext_msgs.specs.declared.answer.Common.{Common}
@@ -31,7 +31,7 @@ use Rattle.ext_msgs.specs.declared.modes.BodyMode.TheVariants.{NoAsk, Streamed, 
 use Rattle.half_machine.proofs.Early.{unanswered, same_head}
 use Rattle.half_machine.specs.declared.facts.Arrived.{Arrived}
 use Rattle.half_machine.specs.Stands.{IsKept, AreKept, ArePieces, OfAnswers, OfAsks, OfCounts, OfHold, MadeWith, Ties, is_streamed, piece_bytes, left_hand, flow}
-use Rattle.half_machine.specs.Room.{OfRoom}
+use Rattle.half_machine.specs.Room.{OfRoom, most_back}
 use Rattle.half_machine.specs.Asking.{due_of, may_ask, with_due, lent_to, counted_for}
 use Rattle.half_machine.specs.Choosing.{IsChosen}
 use Rattle.half_machine.specs.declared.due.Due.{Due}
@@ -44,7 +44,7 @@ use Rattle.half_machine.specs.BodyAsks.{BodyAsks}
 use Rattle.half_machine.proofs.AskedBody.{pairs_stay, answer_stays, other_asks, piece_asks}
 use Rattle.half_machine.proofs.AtHand.{unstopped_keeps}
 use Rattle.half_machine.proofs.NextAsk.{part, body_is_due, next_is_due}
-use Rattle.half_machine.proofs.Room.{joined_more, room_same, room_lent}
+use Rattle.half_machine.proofs.Room.{pieces_lent, room_same, room_lent}
 use Rattle.half_machine.proofs.Lending.{LendsFrom, lends_from, going_on, unasked_kept, left_kept, hand_kept}
 
 -- What an ask leaves as it was
@@ -364,9 +364,11 @@ trailers_kept c d p x t e =
 assemble : (c : CourseConfig) (d : Direction) (p : Progress) (x : Half) (a : Due) (q : AskedPart) → Ties c d p x → mark_of q ≡ mark_for a
     → OfAsks (made_with a x.asked) (with_ask q p.course) p.handed → OfCounts (counted_for (lent_by a) x.counts) d (with_ask q p.course) p.taken.body
     → OfHold (lent_to (lent_by a) x.hold) c d (with_ask q p.course) p.taken.body → BodyAsks (with_ask q p.course)
-    → OfRoom (lent_to (lent_by a) x.hold) c p.course.modes.headers (p.course.asks ++ q ∷ []) p.course.original.body p.course.released → next c p.course ≡ Some q
+    → OfRoom (lent_to (lent_by a) x.hold) c p.course.modes.headers (p.course.asks ++ q ∷ []) p.course.original.body p.course.released
+    → (p.course.released ≡ false → (counted_for (lent_by a) x.counts).pieces + most_back c.answer_limit (lent_to (lent_by a) x.hold).lent ≤ c.buffer_limit + c.answer_limit * 4 + 131_072)
+    → next c p.course ≡ Some q
     → IsKept x.head x.arrived.framed x.trailers q → Ties c d (record p { course = with_ask q p.course }) (with_due a x)
-assemble c d p x a q t m k u h b r e y =
+assemble c d p x a q t m k u h b r g e y =
     let w : Course = p.course in
     let n : length w.answers ≤ length w.asks = t.sound.counts in
     record {
@@ -381,6 +383,7 @@ assemble c d p x a q t m k u h b r e y =
       room = r;
       pieces = subst (λ l. OfPieces x.pieces l p.taken.body) (sym (pieces_stay d w q n)) t.pieces;
       pieces_fit = fit (lent_by a);
+      pieces_room = g;
       marks = ap (λ l. l ++ mark_for a ∷ []) t.marks ∙ ap (λ z. map mark_of (out w) ++ z ∷ []) (sym m) ∙ sym (map-append mark_of (out w) (q ∷ [])) ∙ ap (map mark_of) (sym (out_more w q n));
       head = t.head ∙ sym (head_stays c d w q n w.original.head);
       fields = t.fields;
@@ -429,7 +432,7 @@ made_ties c d p x a m t k y e = by a e
         assemble c d p x due.Headers q t refl (asks_of due.Headers)
         (counts_with x.counts d p.course p.taken.body q x.counts.unasked t.sound.counts on.0 (unstopped_keeps d p.course on.1) t.counts (minus_none x.counts.unasked))
         (hold_stays c d p.course p.taken.body q x.hold t.sound.counts on.0 refl refl refl t.hold)
-        (other_asks p.course q t.sound.counts refl t.body_asks) (room_same c d p x due.Headers t e refl) (next_of due.Headers e) (headers_kept c d p x t e)
+        (other_asks p.course q t.sound.counts refl t.body_asks) (room_same c d p x due.Headers t e refl) t.pieces_room (next_of due.Headers e) (headers_kept c d p x t e)
     by (due.Body n last) e =
         let f : LendsFrom c p x n last = lends_from c d p x n last m t e in
         let q : AskedPart = part p x (due.Body n last) in
@@ -440,7 +443,7 @@ made_ties c d p x a m t k y e = by a e
         (ap (λ z. x.counts.unasked - z) (sym (length-take-le n x.hold.hand f.there))))
         (hold_lent c d p.course p.taken.body n last x.hold t.sound.counts f.unreleased u f.there f.small b t.hold)
         (piece_asks p.course q t.sound.counts f.going (ap is_bodiless (sym t.arrived.framed) ∙ with_body (is_bodiless x.arrived.framed) _ f.due) (λ b. f.first (not_streamed p.course.modes.body b)) t.body_asks)
-        (room_lent c d p x n last m t k y e f b)
+        (room_lent c d p x n last m t k y e f b) (λ r. pieces_lent c d p x n last m t k y e f)
         (next_of (due.Body n last) e) tt
     by due.Trailers e =
         let on = going_on c d p x due.Trailers t e in
@@ -448,4 +451,4 @@ made_ties c d p x a m t k y e = by a e
         assemble c d p x due.Trailers q t refl (asks_of due.Trailers)
         (counts_with x.counts d p.course p.taken.body q x.counts.unasked t.sound.counts on.0 (unstopped_keeps d p.course on.1) t.counts (minus_none x.counts.unasked))
         (hold_stays c d p.course p.taken.body q x.hold t.sound.counts on.0 refl refl refl t.hold)
-        (other_asks p.course q t.sound.counts refl t.body_asks) (room_same c d p x due.Trailers t e refl) (next_of due.Trailers e) (trailers_kept c d p x t e)
+        (other_asks p.course q t.sound.counts refl t.body_asks) (room_same c d p x due.Trailers t e refl) t.pieces_room (next_of due.Trailers e) (trailers_kept c d p x t e)

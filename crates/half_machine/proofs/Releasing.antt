@@ -248,6 +248,7 @@ assemble c d p x k h t u s l f = record {
       let a : k.pieces ≡ piece_bytes p.course - p.course.given = u.pieces in
       let b : x.counts.pieces ≡ piece_bytes p.course - p.course.given = t.counts.pieces in
       let e = t.pieces_fit in omega arith;
+  pieces_room = λ r. absurd (clash r);
   marks = t.marks;
   head = t.head;
   fields = t.fields;

@@ -1,11 +1,11 @@
 -- What is lent has room to go out.
-use Rattle.std.proofs.Common.{refl, sym, ◌∙◌, ap, arith, rules, append-nil, length-append, length-drop}
+use Rattle.std.proofs.Common.{inl, inr, refl, sym, ◌∙◌, ap, arith, rules, append-nil, length-append, length-drop}
 use Rattle.std.proofs.lemmas.Grind.{flat_map-append}
 use Rattle.std.proofs.lemmas.List.{append_assoc, drop-append-le, drop-drop, length-take-le, take-append-drop}
 use Rattle.std.proofs.lemmas.List.Concat.{length-flat_map}
 use Rattle.std.proofs.lemmas.List.Folds.{list_any-append}
 use Rattle.std.proofs.lemmas.List.Sums.{sum_by_push}
-use Rattle.std.specs.Prelude.{ℕ, ◌≡◌, ◌+◌, ◌-◌, ◌*◌, ◌≤◌, ◌<◌, Bool, true, false, not, ◌&&◌, ◌||◌, List, ◌∷◌, ◌++◌, Some, [], length, take, drop, zip, find, cond, flat_map, Option, is_some, option_map, if◌then◌else◌, nat_lt, nat_le}
+use Rattle.std.specs.Prelude.{ℕ, ◌≡◌, ◌+◌, ◌-◌, ◌*◌, ◌≤◌, ◌<◌, Bool, true, false, not, ◌&&◌, ◌||◌, List, ◌∷◌, ◌++◌, Some, [], length, take, drop, zip, find, cond, flat_map, Option, is_some, option_map, if◌then◌else◌, nat_lt, nat_le, ◌⊎◌}
 use Rattle.std.specs.List.{list_any}
 use Rattle.ext_msgs.specs.declared.answer.Common.{Common}
 use Rattle.ext_msgs.specs.declared.modes.BodyMode.{BodyMode}
@@ -26,12 +26,13 @@ use Rattle.half_machine.specs.Due.{due_in, body_due, trailers_due}
 use Rattle.half_machine.specs.Facts.{mode_in, settled_in}
 use Rattle.half_machine.specs.Marks.{is_of_headers}
 use Rattle.half_machine.specs.Room.{OfRoom, most_back}
-use Rattle.half_machine.specs.Stands.{MadeWith, Ties, is_streamed}
+use Rattle.half_machine.specs.Stands.{MadeWith, Ties, is_streamed, piece_bytes}
 use Rattle.half_machine.specs.declared.due.Due.{Due}
 use Rattle.half_machine.specs.declared.due.Due.TheVariants as due
 use Rattle.half_machine.specs.declared.half.Half.{Half}
 use Rattle.half_machine.proofs.AtHand.{rest_at_hand, unstopped_keeps}
 use Rattle.half_machine.proofs.Lending.{LendsFrom, can_lend, few_of, below}
+use Rattle.half_machine.proofs.AskedBody.{no_pieces}
 use Rattle.half_machine.proofs.NextAsk.{part, headers_out_is}
 
 clash : true ≡ false → ⊥
@@ -202,9 +203,10 @@ is_settled_at c d p x a t e f =
 few_queued : (n : ℕ) → nat_le n 65_536 ≡ true → n ≤ 65_536
 few_queued n e = search rules
 
-out_few : (c : CourseConfig) (d : Direction) (p : Progress) (x : Half) (n : ℕ) (last : Bool) → MadeWith c d x → Ties c d p x → IsChosen x → may_ask x ≡ true → due_of x ≡ Some (due.Body n last)
-    → LendsFrom c p x n last → length x.hold.out ≤ 65_536
-out_few c d p x n last m t k y e f = by (is_some x.gone.framing) refl
+-- the head was chosen, or nothing of the body was asked
+few_waiting : (c : CourseConfig) (d : Direction) (p : Progress) (x : Half) (n : ℕ) (last : Bool) → MadeWith c d x → Ties c d p x → IsChosen x → may_ask x ≡ true → due_of x ≡ Some (due.Body n last)
+    → LendsFrom c p x n last → (x.counts.waiting + length x.hold.out ≤ 65_536) ⊎ (list_any is_body p.course.asks ≡ false)
+few_waiting c d p x n last m t k y e f = by (is_some x.gone.framing) refl
   where
     queue : queued x ≤ 65_536
     queue = few_queued (queued x) (few_of (nat_lt (length x.marks) 4) (nat_lt x.asked.unsent 4) (nat_le (queued x) 65_536) y).2
@@ -228,15 +230,39 @@ out_few c d p x n last m t k y e f = by (is_some x.gone.framing) refl
         either true = refl
         either false = refl
 
-    by : (b : Bool) → is_some x.gone.framing ≡ b → length x.hold.out ≤ 65_536
+    by : (b : Bool) → is_some x.gone.framing ≡ b → (x.counts.waiting + length x.hold.out ≤ 65_536) ⊎ (list_any is_body p.course.asks ≡ false)
     by true i =
         let q : (if is_some x.gone.framing then x.counts.waiting + length x.hold.out + (if passes x then length x.hold.hand else 0) else 0)
         ≡ x.counts.waiting + length x.hold.out + (if passes x then length x.hold.hand else 0) =
         ap (λ b. if b then x.counts.waiting + length x.hold.out + (if passes x then length x.hold.hand else 0) else 0) i in
         let u = queue in
+        inl (omega arith)
+    by false i = inr (unasked (is_streamed p.course.modes.body) refl i)
+
+out_few : (c : CourseConfig) (d : Direction) (p : Progress) (x : Half) (n : ℕ) (last : Bool) → MadeWith c d x → Ties c d p x → IsChosen x → may_ask x ≡ true → due_of x ≡ Some (due.Body n last)
+    → LendsFrom c p x n last → length x.hold.out ≤ 65_536
+out_few c d p x n last m t k y e f = by (few_waiting c d p x n last m t k y e f)
+  where
+    by : (x.counts.waiting + length x.hold.out ≤ 65_536) ⊎ (list_any is_body p.course.asks ≡ false) → length x.hold.out ≤ 65_536
+    by (inl q) = omega arith
+    by (inr u) = let z : length x.hold.out ≡ 0 = ap length (t.hold.idle u (unstopped_keeps d p.course f.going)) in omega arith
+
+pieces_few : (c : CourseConfig) (d : Direction) (p : Progress) (x : Half) (n : ℕ) (last : Bool) → MadeWith c d x → Ties c d p x → IsChosen x → may_ask x ≡ true → due_of x ≡ Some (due.Body n last)
+    → LendsFrom c p x n last → x.counts.pieces ≤ 65_536
+pieces_few c d p x n last m t k y e f = by (few_waiting c d p x n last m t k y e f)
+  where
+    count : x.counts.pieces ≡ piece_bytes p.course - p.course.given
+    count = t.counts.pieces
+
+    by : (x.counts.waiting + length x.hold.out ≤ 65_536) ⊎ (list_any is_body p.course.asks ≡ false) → x.counts.pieces ≤ 65_536
+    by (inl q) =
+        let a : piece_bytes p.course ≤ p.taken.body + length x.hold.out = t.hold.pieces_first (unstopped_keeps d p.course f.going) in
+        let g : p.course.given + x.counts.waiting ≡ p.taken.body = t.counts.waiting in
+        let b = count in
         omega arith
-    by false i =
-        let z : length x.hold.out ≡ 0 = ap length (t.hold.idle (unasked (is_streamed p.course.modes.body) refl i) (unstopped_keeps d p.course f.going)) in
+    by (inr u) =
+        let z : piece_bytes p.course ≡ 0 = ap (λ l. length (flat_map (λ p. p) l)) (no_pieces p.course.asks p.course.answers u) in
+        let b = count in
         omega arith
 
 pub joined_more : (lent : List (List ℕ)) (piece : List ℕ) → length (joined (lent ++ piece ∷ [])) ≡ length (joined lent) + length piece
@@ -274,3 +300,19 @@ room_lent c d p x n last m t k y e f b =
           most_few c.answer_limit (x.hold.lent ++ take n x.hold.hand ∷ []) (omega arith) in
           omega arith;
     }
+
+pub pieces_lent : (c : CourseConfig) (d : Direction) (p : Progress) (x : Half) (n : ℕ) (last : Bool) → MadeWith c d x → Ties c d p x → IsChosen x → may_ask x ≡ true
+    → due_of x ≡ Some (due.Body n last) → LendsFrom c p x n last → x.counts.pieces + most_back c.answer_limit (lend n x.hold).lent ≤ c.buffer_limit + c.answer_limit * 4 + 131_072
+pieces_lent c d p x n last m t k y e f =
+    let size : length (take n x.hold.hand) ≡ n = length-take-le n x.hold.hand f.there in
+    let lends : CanLend x (Some n) = can_lend c d p x n last m t (below (length x.marks) 4 (few_of (nat_lt (length x.marks) 4) (nat_lt x.asked.unsent 4) (nat_le (queued x) 65_536) y).0) e in
+    let few : length x.hold.lent < 4 = lends.1 in
+    let fits : length (joined x.hold.lent) + n ≤ lent_room x.hold.limit = lends.2 in
+    let more : length (joined (x.hold.lent ++ take n x.hold.hand ∷ [])) ≡ length (joined x.hold.lent) + length (take n x.hold.hand) = joined_more x.hold.lent (take n x.hold.hand) in
+    let one : length (x.hold.lent ++ take n x.hold.hand ∷ []) ≡ length x.hold.lent + 1 = length-append x.hold.lent (take n x.hold.hand ∷ []) in
+    let i : c.buffer_limit ≡ x.limit = m.limit in
+    let j : x.hold.limit ≡ x.limit = m.hold in
+    let o : x.counts.pieces ≤ 65_536 = pieces_few c d p x n last m t k y e f in
+    let back : most_back c.answer_limit (x.hold.lent ++ take n x.hold.hand ∷ []) ≤ c.answer_limit * 4 + length (joined (x.hold.lent ++ take n x.hold.hand ∷ [])) =
+    most_few c.answer_limit (x.hold.lent ++ take n x.hold.hand ∷ []) (omega arith) in
+    omega arith

@@ -1,6 +1,6 @@
 -- A half that got other modes stands for the course that has them: nothing of the body was asked.
 use Rattle.std.proofs.Common.{inl, inr, refl, sym, ◌∙◌, ap, subst, arith}
-use Rattle.std.specs.Prelude.{ℕ, ◌≡◌, ◌⊎◌, ◌+◌, ◌-◌, ◌≤◌, Bool, true, false, List, ◌∷◌, ◌++◌, Some, None, [], length, drop, map, filter_map, zip, find, flat_map, Option, is_some, option_map, if◌then◌else◌}
+use Rattle.std.specs.Prelude.{ℕ, ◌≡◌, ◌⊎◌, ◌+◌, ◌-◌, ◌≤◌, Bool, true, false, List, ◌++◌, Some, None, [], length, drop, map, zip, find, flat_map, Option, is_some, option_map, if◌then◌else◌}
 use Rattle.std.specs.List.{list_any}
 use Rattle.ext_msgs.specs.declared.lists.Field.{Field}
 use Rattle.ext_msgs.specs.declared.answer.Common.{Common}
@@ -9,7 +9,7 @@ use Rattle.http_model.specs.Bytes.{is_empty}
 use Rattle.http_model.specs.declared.types.Direction.{Direction}
 use Rattle.body_hold.specs.Held.{Held}
 use Rattle.filter_model.specs.Config.{CourseConfig}
-use Rattle.filter_model.specs.Course.{Course, AskedPart, Headers, Body, Trailers, Outgoing, changed_head, head_kind, under, is_buffered, is_bare, is_body, is_headers, is_passing, passing_at, is_stopped, mode, out, pairs, bytes_in, asked_bytes, answered_bytes, answered_pieces, answered_piece, answer_to, replacement, replacement_at}
+use Rattle.filter_model.specs.Course.{Course, AskedPart, Outgoing, changed_head, head_kind, under, is_buffered, is_bare, is_body, is_headers, is_passing, passing_at, is_stopped, mode, out, pairs, bytes_in, asked_bytes, answered_bytes, answered_pieces, answer_to, replacement, replacement_at}
 use Rattle.filter_model.specs.Half.{Past, Settle, called, settled_modes, progress, course}
 use Rattle.filter_model.specs.Sound.{Sound}
 use Rattle.filter_model.proofs.CourseGrows.{none_of_kind, once_out, no_bytes}
@@ -17,7 +17,7 @@ use Rattle.half_machine.specs.Stands.{ArePieces, OfHold, Ties, StandsFor, flow, 
 use Rattle.half_machine.specs.Calls.{MaySettle, settled_in}
 use Rattle.half_machine.specs.Choosing.{Holds}
 use Rattle.half_machine.specs.declared.half.Half.{Half}
-use Rattle.half_machine.proofs.AskedBody.{settled_asks}
+use Rattle.half_machine.proofs.AskedBody.{no_pieces, settled_asks}
 use Rattle.half_machine.proofs.AtHand.{flow_kept}
 use Rattle.half_machine.proofs.Lending.{hand_kept, no_bodies, none_out}
 use Rattle.half_machine.proofs.Coming.{answered_were_asked}
@@ -53,13 +53,6 @@ unasked c w s (inr e) = record {
     by : (o : Option Outgoing) → w.head ≡ o → w.released ≡ false → w.head ≡ None
     by None i z = i
     by (Some h) i z = absurd (clash (sym e ∙ s.no_headers h i z))
-
-no_pieces : (asks : List AskedPart) (answers : List Common) → list_any is_body asks ≡ false → filter_map answered_piece (zip asks answers) ≡ []
-no_pieces [] answers e = refl
-no_pieces (p ∷ asks) [] e = refl
-no_pieces (Headers f l ∷ asks) (a ∷ answers) e = no_pieces asks answers e
-no_pieces (Body b l ∷ asks) (a ∷ answers) e = absurd (clash e)
-no_pieces (Trailers f ∷ asks) (a ∷ answers) e = no_pieces asks answers e
 
 abbrev with_modes : PartModes → Course → Course
 with_modes m w = record w { modes = m }
@@ -207,6 +200,7 @@ settle_holds p x m made s y e =
         room = record { first = headers_first w.original.head w m c refl t.sound t.room.first; pieces = t.room.pieces; lent = t.room.lent; goes = t.room.goes };
         pieces = t.pieces;
         pieces_fit = t.pieces_fit;
+        pieces_room = t.pieces_room;
         marks = t.marks;
         head = t.head ∙ sym (same_head c d w n body w.original.head);
         fields = t.fields;

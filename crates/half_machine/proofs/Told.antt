@@ -55,6 +55,7 @@ sent_holds p x s m =
         room = t.room;
         pieces = t.pieces;
         pieces_fit = t.pieces_fit;
+        pieces_room = t.pieces_room;
         marks = t.marks;
         head = t.head;
         fields = t.fields;
@@ -100,6 +101,7 @@ given_holds p x n s m =
         room = t.room;
         pieces = t.pieces;
         pieces_fit = let a = t.pieces_fit in omega arith;
+        pieces_room = λ r. let a = t.pieces_room r in omega arith;
         marks = t.marks;
         head = t.head;
         fields = t.fields;

@@ -1,5 +1,5 @@
 -- What is known of the asks of a body, as long as nothing is released.
-use Rattle.std.specs.Prelude.{◌≡◌, ◌⊎◌, Bool, true, false, Some, is_some}
+use Rattle.std.specs.Prelude.{◌≡◌, ◌⊎◌, true, false, Some, is_some}
 use Rattle.std.specs.List.{list_any}
 use Rattle.http_model.specs.Heads.{is_bodiless}
 use Rattle.filter_model.specs.Course.{Course, Outgoing, is_body, is_buffered, is_headers, answer_to, replaces}

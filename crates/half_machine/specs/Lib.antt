@@ -10,3 +10,5 @@ pub mod Choosing
 pub mod Calls
 pub mod Handing
 pub mod Giving
+pub mod Judging
+pub mod Answering

@@ -1,5 +1,5 @@
 -- The pieces of a body that wait to go out, before the bytes that pass.
-use Rattle.std.specs.Prelude.{ℕ, ◌≡◌, ◌⊎◌, ◌≤◌, List, [], ◌∷◌, ◌++◌, length, flat_map, Option, Some, None}
+use Rattle.std.specs.Prelude.{ℕ, ◌≡◌, ◌⊎◌, ◌≤◌, List, [], ◌∷◌, ◌++◌, length, flat_map, Option, Some, None, if◌then◌else◌, ◌==◌}
 use Rattle.http_model.specs.declared.types.Direction.{Direction}
 use Rattle.filter_model.specs.Course.{Course, answered_pieces, replacement}
 
@@ -25,3 +25,7 @@ pub record OfPieces (x : List ℕ) (pieces : List (List ℕ)) (handed : ℕ) : T
   pub lengths : x ≡ lengths_of left
   pub least : length (flat_map (λ p. p) gone) ≤ handed
   pub ends : (x ≡ []) ⊎ (handed ≡ length (flat_map (λ p. p) gone))
+
+-- the length of one that has bytes
+abbrev pub unless_none : ℕ → List ℕ
+unless_none n = if n == 0 then [] else n ∷ []

@@ -24,7 +24,7 @@ use Rattle.filter_model.specs.Sound.{Sound}
 use Rattle.body_hold.specs.Held.{Held}
 use Rattle.half_machine.specs.BodyAsks.{BodyAsks}
 use Rattle.half_machine.specs.Marks.{mark_of}
-use Rattle.half_machine.specs.Room.{OfRoom}
+use Rattle.half_machine.specs.Room.{OfRoom, most_back}
 use Rattle.half_machine.specs.Pieces.{OfPieces, pieces_of}
 use Rattle.half_machine.specs.declared.facts.Arrived.{Arrived}
 use Rattle.half_machine.specs.declared.facts.Ruled.{Ruled}
@@ -138,6 +138,7 @@ pub record Ties (c : CourseConfig) (d : Direction) (p : Progress) (x : Half) : T
   pub room : OfRoom x.hold c p.course.modes.headers p.course.asks p.course.original.body p.course.released
   pub pieces : OfPieces x.pieces (pieces_of d p.course) p.taken.body
   pub pieces_fit : x.counts.pieces ≤ 4_294_967_295
+  pub pieces_room : p.course.released ≡ false → x.counts.pieces + most_back c.answer_limit x.hold.lent ≤ c.buffer_limit + c.answer_limit * 4 + 131_072
   pub marks : x.marks ≡ map mark_of (out p.course)
   pub head : x.head ≡ option_map (changed_head c d p.course) p.course.original.head
   pub fields : (o : Outgoing) → p.course.head ≡ Some o → x.head ≡ Some o.fields
@@ -156,6 +157,7 @@ pub record IsMade (c : CourseConfig) (d : Direction) (most : ℕ) (allowed : Rul
   pub direction : d ≡ way
   pub hold : held ≡ most
   pub answers : c.answer_limit ≡ answer
+  pub few_answers : answer ≤ 2_097_152
 
 abbrev pub MadeWith : CourseConfig → Direction → Half → Type 0
 MadeWith c d x = IsMade c d x.limit x.rules x.direction x.hold.limit x.hold.answer

@@ -14,7 +14,7 @@ use crate::half::Half;
 use http_model::{Direction, Framing, Length};
 
 // A response that can have no body.
-fn is_bare(direction: Direction, length: Length) -> bool
+pub(crate) fn is_bare(direction: Direction, length: Length) -> bool
     ensures { result ≡ is_bare direction length }
 {
     match (direction, length) {

@@ -64,7 +64,7 @@ impl Half {
     }
 
     // An ask that is out, with so many of the body out before it.
-    fn ask_for(&self, mark: Mark, before: u32) -> Result<Ask, AllocError>
+    pub(crate) fn ask_for(&self, mark: Mark, before: u32) -> Result<Ask, AllocError>
         requires { IsThere self.now mark before }
         ensures { IfOk result (λ ask. ask ≡ ask_of self.now.direction (part_at self.now mark before)) }
     {

@@ -1,6 +1,7 @@
 //! The pieces of a body that wait to go out.
 
-ghost use Rattle.std.specs.Prelude.{◌≡◌, ◌++◌, ◌∷◌, [], drop, slice_get, OnOk, OnErr};
+ghost use Rattle.std.specs.Prelude.{◌≡◌, ◌++◌, ◌∷◌, ℕ, List, [], drop, slice_get, OnOk, OnErr};
+ghost use Rattle.half_machine.specs.Pieces.{unless_none};
 
 use std::alloc::{AllocError, Global};
 use std::collections::VecDeque;
@@ -37,6 +38,26 @@ impl Lengths {
     {
         self.items.push_back(length)?;
         Ok(())
+    }
+
+    /// A piece waits, or the list is left as it was. An empty one doesn't wait.
+    pub fn push_piece(&mut self, length: u32) -> Result<(), AllocError>
+        ensures pushed { OnOk result (self.new ≡ self.old ++ unless_none length) }
+        ensures unchanged { OnErr result (self.new ≡ self.old) }
+    {
+        if length == 0 {
+            return Ok(());
+        }
+        self.push(length)
+    }
+
+    /// The newest doesn't wait after all.
+    pub fn take_back(&mut self, length: u32)
+        ensures { (xs : List ℕ) → self.old ≡ xs ++ unless_none length → self.new ≡ xs }
+    {
+        if length != 0 {
+            self.items.pop_back();
+        }
     }
 
     /// The oldest.

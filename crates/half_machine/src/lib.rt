@@ -1,11 +1,12 @@
 //! One direction of a message on its way through the filter: which ask is due, which bytes are held, and what goes on.
 //!
 //! A half stands for the past of its calls as `filter_model` defines it (`specs/Stands.antt`): each of its fields is
-//! what the definitions say. There are so far `new`, `settle`, `head`, `data`, `end`, `sent`, `given`, `asks_out`,
-//! `held`, `room`, `over_limit`, `next_ask` and `next_out`, and what follows every call: the choice of the head, and
-//! the asks that are due and permitted.
+//! what the definitions say. It is told what is read, answered, sent and given (`calls`, `answering`), and after each
+//! call its head is chosen where it may go, and the asks that are due and permitted are made. It hands out these asks
+//! (`handing`) and what the message has become (`giving`).
 #![tactic(auto)]
 
+mod answering;
 mod asking;
 mod calls;
 mod choosing;
@@ -14,6 +15,7 @@ mod facts;
 mod giving;
 mod half;
 mod handing;
+mod judging;
 mod lengths;
 mod marks;
 mod own;

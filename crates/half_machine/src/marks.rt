@@ -1,6 +1,6 @@
 //! The asks that are out.
 
-ghost use Rattle.std.specs.Prelude.{◌≡◌, ◌<◌, ◌≤◌, ◌++◌, ◌∷◌, [], length, take, filter, slice_index_or, IfOk};
+ghost use Rattle.std.specs.Prelude.{◌≡◌, ◌<◌, ◌≤◌, ◌++◌, ◌∷◌, [], length, take, drop, filter, slice_get, slice_index_or, IfOk};
 ghost use Rattle.std.specs.List.{list_any};
 ghost use Rattle.half_machine.specs.Marks.{is_of_headers, is_of_body, is_of_trailers};
 
@@ -54,6 +54,21 @@ impl Marks {
         ensures { self.new ≡ self.old ++ mark ∷ [] }
     {
         self.items.push_reserved(mark);
+    }
+
+    /// The oldest.
+    pub fn first(&self) -> Option<Mark>
+        ensures { result ≡ slice_get self.now 0 }
+    {
+        self.items.first().copied()
+    }
+
+    /// The oldest was answered.
+    pub fn drop_first(&mut self)
+        requires { 0 < length self.old }
+        ensures { self.new ≡ drop 1 self.old }
+    {
+        self.items.remove(0);
     }
 
     /// Whether one of the headers is out.

@@ -3,7 +3,7 @@ use Rattle.body_hold.specs.Held.{Held}
 use Rattle.http_model.specs.declared.types.Direction.{Direction}
 use Rattle.half_machine.specs.Stands.{direction_of}
 use Rattle.half_machine.proofs.AskedBody.{fresh_asks}
-use Rattle.half_machine.proofs.Fresh.{fresh_sound, fresh_kept, fresh_unasked, fresh_hold, fresh_room}
+use Rattle.half_machine.proofs.Fresh.{fresh_sound, fresh_kept, fresh_unasked, fresh_hold, fresh_room, fresh_pieces_room}
 use Rattle.half_machine.proofs.PiecesLeft.{fresh_pieces}
 use Rattle.half_machine.proofs.half.Half.new.Goals as goal
 
@@ -22,6 +22,7 @@ returns c config f =
         direction = sym c.direction.ensures;
         hold = ap (λ (h : Held). h.limit) c.in_ok-hold.ensures;
         answers = f.answer ∙ sym (ap (λ (h : Held). h.answer) c.in_ok-hold.ensures);
+        few_answers = let e = ap (λ (h : Held). h.answer) c.in_ok-hold.ensures in let r = c.requires.answer in omega arith;
       };
       ties = record {
         arrived = record { head = refl; framed = refl; own = λ h e. absurd cc; whole = refl; trailers = refl; bytes = refl; bare = λ e. refl; unread = λ e. (refl, refl) };
@@ -35,6 +36,7 @@ returns c config f =
         room = fresh_room config modes.headers c.in_ok-hold.hold c.args.setup.buffer_limit c.args.setup.answer_limit c.in_ok-hold.ensures;
         pieces = fresh_pieces d modes c.new-3.result c.new-3.ensures;
         pieces_fit = omega arith;
+        pieces_room = fresh_pieces_room config c.in_ok-hold.hold c.args.setup.buffer_limit c.args.setup.answer_limit c.in_ok-hold.ensures;
         marks = c.in_ok-marks.ensures;
         head = refl;
         fields = λ o e. absurd cc;

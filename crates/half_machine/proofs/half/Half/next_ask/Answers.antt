@@ -1,6 +1,6 @@
 use Rattle.std.proofs.Common.{refl, sym, ◌∙◌, ap, ◌≡◌, ◌<◌, ◌-◌, ℕ, arith}
 use Rattle.std.specs.Prelude.{Some}
-use Rattle.half_machine.proofs.Handed.{Handing, handing, handed_stands, unhanded_out, none_unhanded, popped, popped_stands}
+use Rattle.half_machine.proofs.Handed.{handing, handed_stands, unhanded_out, none_unhanded, popped, popped_stands}
 use Rattle.half_machine.proofs.half.Half.next_ask.Goals as goal
 
 positive : (n : ℕ) → (n ≡ 0 → ⊥) → 0 < n
