@@ -7,3 +7,4 @@ pub mod Corners
 pub mod Growing
 pub mod Giving
 pub mod Halves
+pub mod Parts

@@ -18,5 +18,6 @@ pub mod Ended
 pub mod WholeAlong
 pub mod EachStep
 pub mod DoneStays
+pub mod WiderPieces
 pub mod HalfGrows
 pub mod HalfWritten

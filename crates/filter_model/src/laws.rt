@@ -5,7 +5,7 @@ ghost use Rattle.filter_model.specs.Config.{FilterConfig};
 ghost use Rattle.filter_model.specs.Course.{Changed, changed};
 ghost use Rattle.filter_model.specs.Cut.{is_whole_and_done};
 ghost use Rattle.filter_model.specs.Grown.{Grown};
-ghost use Rattle.filter_model.specs.Half.{Past, NothingDue, becomes, parts, progress};
+ghost use Rattle.filter_model.specs.Half.{Past, Taken, MayGive, NothingDue, becomes, parts, progress};
 ghost use Rattle.filter_model.specs.HalfRight.{IsPast, written_parts};
 ghost use Rattle.filter_model.specs.Outgoing.{IsWire};
 ghost use Rattle.filter_model.specs.Right.{Call, Headline, IsHistory, account, ask_given, is_done};
@@ -15,6 +15,7 @@ ghost use Rattle.filter_model.specs.declared.calls.Loss.{Loss};
 ghost use Rattle.filter_model.specs.declared.calls.Side.{Side};
 ghost use Rattle.http_model.specs.Bytes.{IsPrefix};
 ghost use Rattle.http_model.specs.declared.types.Direction.{Direction};
+ghost use Rattle.http_model.specs.declared.types.Out.{Out};
 ghost use Rattle.std.specs.Prelude.{List, map, reverse, filter_map, true, false, ◌∷◌, ◌≡◌, ◌≤◌, ◌+◌, ◌⊎◌, ℕ};
 
 /// In every history the asks that went out are the first of those made, in order.
@@ -56,12 +57,14 @@ pub fn each_step()
 {}
 
 /// What was handed out in a past of one direction, written, is the first of what its message may go out as, and all of
-/// it where no part may go.
+/// it where no part may go. What may go in smaller pieces may go in greater ones.
 pub fn parts_are_the_first()
     ensures first { (p : Past) → IsPast p → (wire : List ℕ) × IsWire p.direction (becomes p) wire
         × IsPrefix (written_parts p.direction (parts p.steps)) wire }
     ensures all { (p : Past) → IsPast p → NothingDue (becomes p) (progress p).taken
         → IsWire p.direction (becomes p) (written_parts p.direction (parts p.steps)) }
+    ensures wider { (max more : ℕ) (m : Changed) (t : Taken) (out : Out) → max ≤ more → MayGive max m t out
+        → MayGive more m t out }
 {}
 
 /// Once a side is done it stays so.

@@ -30,9 +30,14 @@ fn tell(rt: &HostRuntime, call: &str, hold: &Hold) -> Result<()> {
         lent.push_str(str::from_utf8(hold.lent_piece(k))?)?;
         lent.push_str("'")?;
     }
-    let out = str::from_utf8(hold.out_front())?;
-    let (hand, bytes, len, held) = (hold.at_hand(), hold.lent(), hold.out_len(), hold.held());
-    println!(rt; "{call}: {hand} at hand, {bytes} lent{lent}, {len} out '{out}', {held} in all")?;
+    let (hand, out) = (
+        str::from_utf8(hold.hand_front())?,
+        str::from_utf8(hold.out_front())?,
+    );
+    let (at_hand, bytes, len, held) = (hold.at_hand(), hold.lent(), hold.out_len(), hold.held());
+    println!(rt;
+        "{call}: {at_hand} at hand '{hand}', {bytes} lent{lent}, {len} out '{out}', {held} in all"
+    )?;
     Ok(())
 }
 
@@ -52,6 +57,7 @@ fn change(alloc: Global, hold: &mut Hold, call: &str, operand: &str) -> Result<(
         "pass" => pass(hold, operand.parse::<u32>()?),
         "pass-lent" => pass_lent(hold),
         "take" => take(hold, operand.parse::<u32>()?),
+        "take-hand" => take_hand(hold, operand.parse::<u32>()?),
         _ => bail!("no call: {call}"),
     }
 }
@@ -141,5 +147,18 @@ fn take(hold: &mut Hold, n: u32) -> Result<()>
         bail!("fewer bytes go out");
     }
     hold.out_drop(n);
+    Ok(())
+}
+
+fn take_hand(hold: &mut Hold, n: u32) -> Result<()>
+    requires limit { hold.old.limit ≡ 16 }
+    requires answer { hold.old.answer ≡ 1024 }
+    ensures limit { hold.new.limit ≡ 16 }
+    ensures answer { hold.new.answer ≡ 1024 }
+{
+    if n > hold.at_hand() {
+        bail!("fewer bytes at hand");
+    }
+    hold.hand_drop(n);
     Ok(())
 }

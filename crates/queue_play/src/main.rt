@@ -5,7 +5,7 @@
 //! |---|---|
 //! | `queue LIMIT` | `push TEXT`, `drop COUNT`, `turns COUNT` (each pushes letters until the queue is full, and drops three) |
 //! | `pieces` | `push TEXT`, `pop` |
-//! | `hold` | `put TEXT`, `lend COUNT`, `keep`, `replace TEXT`, `clear`, `pass COUNT`, `pass-lent`, `take COUNT` |
+//! | `hold` | `put TEXT`, `lend COUNT`, `keep`, `replace TEXT`, `clear`, `pass COUNT`, `pass-lent`, `take COUNT`, `take-hand COUNT` |
 //! | `source TEXT FAILING`, `sure-source TEXT` | `read SIZE`, all into the same buffer |
 //! | `sink ROOM FAILING`, `sure-sink ROOM` | `write TEXT` |
 //!
