@@ -2,6 +2,7 @@
 use Rattle.std.proofs.Common.{refl, sym, ◌∙◌, arith}
 use Rattle.std.specs.Prelude.{ℕ, ◌≡◌, ◌+◌, ◌-◌, min, ◌<◌, ◌≤◌, Bool, true, false, not, List, [], length}
 use Rattle.ext_msgs.specs.declared.lists.Field.{Field}
+use Rattle.ext_msgs.specs.declared.answer.Common.{Common}
 use Rattle.ext_msgs.specs.declared.modes.PartModes.{PartModes}
 use Rattle.http_model.specs.Heads.{is_bodiless}
 use Rattle.http_model.specs.declared.types.Length.{Length}
@@ -10,7 +11,7 @@ use Rattle.http_model.specs.declared.types.Out.TheVariants as part
 use Rattle.http_model.specs.declared.types.Direction.{Direction}
 use Rattle.filter_model.specs.Config.{CourseConfig}
 use Rattle.filter_model.specs.Course.{body_room, course_rules}
-use Rattle.filter_model.specs.Half.{Past, Settle, Head, Bytes, End, Release, Sent, Given, Told, Asked, Gave, after_step, course, half_rules}
+use Rattle.filter_model.specs.Half.{Past, Settle, Head, Bytes, End, Release, Answer, Sent, Given, Told, Asked, Gave, after_step, course, half_rules}
 use Rattle.half_machine.specs.Calls.{MayBytes}
 use Rattle.half_driver.specs.Driving.{Follows, size_of}
 
@@ -81,3 +82,8 @@ pub may_bytes : (p : Past) (read unfinished : Bool) (unsent waiting : ℕ) (b : 
 may_bytes p read unfinished unsent waiting b room f u r l =
     let o = f.reads u in
     record { read = o.0; has_body = o.1; unfinished = o.2; fits = omega arith }
+
+pub answered : (read unfinished : Bool) (unsent waiting : ℕ) (p : Past) (a : Common) → Follows read unfinished unsent waiting p
+    → Follows read unfinished unsent waiting (after_step (Told (Answer a)) p)
+unfolding half_rules course_rules
+answered read unfinished unsent waiting p a f = record { unread = f.unread; reads = f.reads; sends = f.sends; gives = f.gives }

@@ -16,8 +16,9 @@ pub record Follows (read unfinished : Bool) (unsent waiting : ℕ) (p : Past) : 
   pub sends : (course p).sent + unsent ≤ (progress p).handed
   pub gives : (course p).given + waiting ≤ (progress p).taken.body
 
-abbrev pub Driving : Half → Bool → Bool → ℕ → ℕ → Type 0
-Driving x read unfinished unsent waiting = (p : Past) × StandsFor p x × Follows read unfinished unsent waiting p
+abbrev pub Driving : Half → Bool → Bool → ℕ → ℕ → ℕ → Type 0
+Driving x read unfinished unsent waiting answer_limit =
+    (p : Past) × StandsFor p x × Follows read unfinished unsent waiting p × (p.config.answer_limit ≡ answer_limit)
 
 abbrev pub size_of : Out → ℕ
 size_of (part.Data bytes) = length bytes

@@ -2,12 +2,13 @@
 
 ghost use Rattle.std.specs.Prelude.{◌≡◌};
 ghost use Rattle.http_model.specs.Heads.{is_bodiless};
+ghost use Rattle.half_machine.specs.Answering.{change_bytes};
 ghost use Rattle.half_driver.specs.Driving.{size_of};
 
 use crate::fault::DriveFault;
-use ext_msgs::{Ask, FieldList, PartModes};
+use ext_msgs::{Ask, BodyChange, FieldList, PartAnswer, PartModes};
 use half_machine::Half;
-use header_mutation::HalfSetup;
+use header_mutation::{HalfFault, HalfSetup};
 use http_model::{Length, Out};
 use std::alloc::Global;
 use std::marker::Model;
@@ -24,6 +25,8 @@ pub struct Driver {
     unsent: u32,
     // Body bytes that were handed out and not given.
     waiting: u64,
+    // The most bytes of an answer's body change.
+    answer_limit: u32,
 }
 
 impl Model for Driver {
@@ -34,7 +37,7 @@ impl Model for Driver {
 
     ghost view = { λ d. d.half };
 
-    ghost invariant = { λ d. Driving d.half d.read d.unfinished d.unsent d.waiting };
+    ghost invariant = { λ d. Driving d.half d.read d.unfinished d.unsent d.waiting d.answer_limit };
 }
 
 // The head alone says that there is no body.
@@ -58,6 +61,16 @@ fn size_of(out: &Out) -> u64
     }
 }
 
+// The bytes of a body change, where it has some.
+fn change_bytes(change: &BodyChange) -> &[u8]
+    ensures { result.now ≡ change_bytes change.now }
+{
+    match change {
+        BodyChange::Bytes(bytes) | BodyChange::Streamed(bytes, _) => bytes.bytes(),
+        BodyChange::Absent | BodyChange::Clear(_) => b"".as_slice(),
+    }
+}
+
 impl Driver {
     /// A half that was told nothing.
     pub fn new(alloc: Global, setup: HalfSetup) -> Result<Driver, DriveFault> {
@@ -67,6 +80,7 @@ impl Driver {
         if setup.answer_limit < 1_024 || setup.answer_limit > 2_097_152 {
             return Err(DriveFault::NotNow);
         }
+        let answer_limit = setup.answer_limit;
         let half = Half::new(alloc, setup)?;
         Ok(Driver {
             half,
@@ -74,6 +88,7 @@ impl Driver {
             unfinished: false,
             unsent: 0,
             waiting: 0,
+            answer_limit,
         })
     }
 
@@ -114,6 +129,18 @@ impl Driver {
         self.half.end(bytes, trailers);
         self.unfinished = false;
         Ok(())
+    }
+
+    /// An answer to the oldest ask out: why it is refused, where it is.
+    pub fn answer(&mut self, answer: &PartAnswer) -> Result<Option<HalfFault>, DriveFault> {
+        if change_bytes(&answer.common.body).len() > self.answer_limit as usize {
+            return Err(DriveFault::NotNow);
+        }
+        match self.half.answer(answer) {
+            Ok(()) => Ok(None),
+            Err(HalfFault::Memory) => Err(DriveFault::Memory),
+            Err(fault) => Ok(Some(fault)),
+        }
     }
 
     /// The rest passes.

@@ -13,4 +13,5 @@ invariant_of-self c =
       after_step (Told (Bytes b)) p,
       c.data.ensures p s (may_bytes p x.read x.unfinished x.unsent x.waiting b c.room.result f c.if-not-self.false (c.room.ensures p s) (search rules)),
       fed x.read x.unfinished x.unsent x.waiting p b f,
+      c.self.invariant.3,
     )

@@ -12,4 +12,4 @@ invariant_of-self c =
     let g = f.gives in
     let few : c.from-size.result ≤ x.waiting = search rules in
     let same : c.from-size.result ≡ c.args.n = c.from-size.ensures in
-    (after_step (Told (Given c.args.n)) p, c.given.ensures p s (record { fewer = omega arith }), given x.read x.unfinished x.unsent x.waiting p c.args.n c.from-size.result same few f)
+    (after_step (Told (Given c.args.n)) p, c.given.ensures p s (record { fewer = omega arith }), given x.read x.unfinished x.unsent x.waiting p c.args.n c.from-size.result same few f, c.self.invariant.3)

@@ -16,4 +16,5 @@ invariant_of-self c =
       after_step (Told (Head h n)) p,
       c.head.ensures p s (record { once = f.unread c.if-self.false }),
       headed x.unfinished (not c.is_bodiless.result) x.unsent x.waiting p h n (ap not c.is_bodiless.ensures) (subst (λ b. Follows b x.unfinished x.unsent x.waiting p) c.if-self.false f),
+      c.self.invariant.3,
     )

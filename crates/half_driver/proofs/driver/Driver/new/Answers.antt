@@ -11,4 +11,5 @@ invariant_of-result c =
       record { config = config; direction = direction_of setup.response; modes = setup.modes; steps = [] },
       c.in_ok-half.ensures config (record { piece = refl; mark = refl; limit = refl; answer = refl; rules = refl }),
       fresh config (direction_of setup.response) setup.modes,
+      refl,
     )

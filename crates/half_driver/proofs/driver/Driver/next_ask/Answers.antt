@@ -9,7 +9,7 @@ use Rattle.half_driver.proofs.driver.Driver.next_ask.Goals as goal
 pub invariant_of-self : goal.invariant_of-self
 invariant_of-self c =
     let x = c.self.inside in
-    subst (λ h. Driving h x.read x.unfinished x.unsent x.waiting) (sym c.in_err-ask.ensures.unchanged) c.self.invariant
+    subst (λ h. Driving h x.read x.unfinished x.unsent x.waiting x.answer_limit) (sym c.in_err-ask.ensures.unchanged) c.self.invariant
 
 pub invariant_of-self-2 : goal.invariant_of-self-2
 invariant_of-self-2 c =
@@ -20,4 +20,5 @@ invariant_of-self-2 c =
       after_step Asked p,
       subst (λ o. StandsFor (after_ask o p) c.next_ask.new.self) c.in-Some.is (c.in_ok-ask.ensures.stands p s),
       subst (λ n. Follows x.read x.unfinished n x.waiting (after_step Asked p)) (sym c.saturating_add-self-inside.ensures) (asked x.read x.unfinished x.unsent x.waiting p f),
+      c.self.invariant.3,
     )

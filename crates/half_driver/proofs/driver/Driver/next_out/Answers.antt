@@ -8,7 +8,7 @@ use Rattle.half_driver.proofs.driver.Driver.next_out.Goals as goal
 pub invariant_of-self : goal.invariant_of-self
 invariant_of-self c =
     let x = c.self.inside in
-    subst (λ h. Driving h x.read x.unfinished x.unsent x.waiting) (sym c.in_err-out.ensures.kept) c.self.invariant
+    subst (λ h. Driving h x.read x.unfinished x.unsent x.waiting x.answer_limit) (sym c.in_err-out.ensures.kept) c.self.invariant
 
 pub invariant_of-self-2 : goal.invariant_of-self-2
 invariant_of-self-2 c =
@@ -22,4 +22,5 @@ invariant_of-self-2 c =
       after_step (Gave out) p,
       c.in_ok-out.ensures.stands p s,
       subst (λ n. Follows x.read x.unfinished x.unsent n (after_step (Gave out) p)) (sym size) (gave x.read x.unfinished x.unsent x.waiting p out f),
+      c.self.invariant.3,
     )

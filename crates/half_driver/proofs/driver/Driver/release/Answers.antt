@@ -8,4 +8,4 @@ invariant_of-self c =
     let p = c.self.invariant.0 in
     let s = c.self.invariant.1 in
     let f = c.self.invariant.2 in
-    (after_step (Told Release) p, c.release.ensures p s, released x.read x.unfinished x.unsent x.waiting p f)
+    (after_step (Told Release) p, c.release.ensures p s, released x.read x.unfinished x.unsent x.waiting p f, c.self.invariant.3)

@@ -11,4 +11,4 @@ invariant_of-self c =
     let f = c.self.invariant.2 in
     let g = f.sends in
     let more : 0 < x.unsent = search rules in
-    (after_step (Told Sent) p, c.sent.ensures p s (record { fewer = omega arith }), sent x.read x.unfinished x.unsent x.waiting p more f)
+    (after_step (Told Sent) p, c.sent.ensures p s (record { fewer = omega arith }), sent x.read x.unfinished x.unsent x.waiting p more f, c.self.invariant.3)

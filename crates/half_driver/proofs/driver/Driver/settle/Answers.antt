@@ -9,4 +9,4 @@ invariant_of-self c =
     let p = c.self.invariant.0 in
     let s = c.self.invariant.1 in
     let f = c.self.invariant.2 in
-    (after_step (Told (Settle c.args.modes)) p, c.settle.ensures p s (record { early = inl (f.unread c.if-self.false) }), settled x.read x.unfinished x.unsent x.waiting p c.args.modes f)
+    (after_step (Told (Settle c.args.modes)) p, c.settle.ensures p s (record { early = inl (f.unread c.if-self.false) }), settled x.read x.unfinished x.unsent x.waiting p c.args.modes f, c.self.invariant.3)
