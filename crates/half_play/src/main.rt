@@ -20,6 +20,7 @@
 //! the same eight times or more.
 #![tactic(auto)]
 
+mod answers;
 mod parts;
 mod play;
 mod setup;

@@ -1,11 +1,13 @@
 //! The lines of a script.
 
+use crate::answers::answer_of;
 use crate::parts::{push_ask, push_out, size_of};
 use crate::setup::{half_of, modes_of};
 use crate::text::{bytes_of, fields_of, push_number};
 use anyhow::{Context, Result, bail};
 use ext_msgs::FieldList;
 use half_driver::{DriveFault, Driver};
+use header_mutation::HalfFault;
 use http_model::Length;
 use std::alloc::Global;
 
@@ -105,6 +107,23 @@ fn out(alloc: Global, driver: &mut Driver, max: u32) -> Result<String> {
     Ok(told)
 }
 
+// Why an answer is refused, where it is.
+fn answer(alloc: Global, driver: &mut Driver, text: &str) -> Result<String> {
+    let mut told = String::new(alloc);
+    match driver.answer(&answer_of(alloc, text)?)? {
+        None => told.push_str("taken")?,
+        Some(HalfFault::Spurious) => told.push_str("refused: spurious")?,
+        Some(HalfFault::Malformed(at)) => {
+            push_number(alloc, &mut told, "refused: malformed at", u64::from(at))?;
+        }
+        Some(HalfFault::Disallowed(at)) => {
+            push_number(alloc, &mut told, "refused: forbidden at", u64::from(at))?;
+        }
+        Some(HalfFault::Memory) => bail!("out of memory"),
+    }
+    Ok(told)
+}
+
 fn state(alloc: Global, driver: &Driver) -> Result<String> {
     let mut told = String::new(alloc);
     push_number(alloc, &mut told, "room", u64::from(driver.room()))?;
@@ -132,6 +151,7 @@ pub fn line(alloc: Global, driver: &mut Driver, line: &str) -> Result<String> {
         "ask" => ask(alloc, driver),
         "sent" => told_of(alloc, driver.sent()),
         "asks" => asks(alloc, driver),
+        "answer" => answer(alloc, driver, text),
         "release" => {
             driver.release();
             Ok(String::from_str(alloc, line)?)
