@@ -5,7 +5,7 @@ use Rattle.h2_frames.specs.declared.frame.Frame.{Frame}
 use Rattle.h2_frames.specs.declared.frame.Frame.TheVariants as frame
 use Rattle.h2_model.specs.Log.{Handed, stream_of, total, violation}
 use Rattle.h2_model.specs.Streams.{opened}
-use Rattle.h2_model.specs.Queue.{Waiting, fresh, queued, is_free}
+use Rattle.h2_model.specs.Queue.{Waiting, fresh, queued, is_free_content}
 use Rattle.h2_model.specs.Account.{Account, is_headless}
 use Rattle.h2_model.specs.Windows.{held_data, data_sent, increment_given, connection_window}
 use Rattle.h2_model.specs.History.{frame_in, violated, last_of_peer}
@@ -33,11 +33,11 @@ module _ (code : ℕ) (a : Account) (v : Valid a) (s : CallsSound a) (e : violat
       omega (
         arith,
         none,
-        queued-append n (filter (λ w. not (is_free w)) a.waiting) (fresh goaway ∷ []),
+        queued-append n (filter (λ w. not (is_free_content w)) a.waiting) (fresh goaway ∷ []),
         queued-cons n (fresh goaway) [],
-        held-append n a.held (map (λ w. Handed w.frame) (filter is_free a.waiting)),
-        dropped-data n (filter is_free a.waiting),
-        queued-split n is_free a.waiting,
+        held-append n a.held (map (λ w. Handed w.frame) (filter is_free_content a.waiting)),
+        dropped-data n (filter is_free_content a.waiting),
+        queued-split n is_free_content a.waiting,
       )
 
   same-after : (n : ℕ) → Same n a (violated code a)
@@ -64,7 +64,7 @@ module _ (code : ℕ) (a : Account) (v : Valid a) (s : CallsSound a) (e : violat
         violation = Some code;
         window = w i;
         streams = s i;
-        waiting = filter (λ w. not (is_free w)) a.waiting ++ fresh goaway ∷ [];
+        waiting = filter (λ w. not (is_free_content w)) a.waiting ++ fresh goaway ∷ [];
         held = [];
       }
 
@@ -84,24 +84,24 @@ module _ (code : ℕ) (a : Account) (v : Valid a) (s : CallsSound a) (e : violat
     updates = λ n. omega (
       arith,
       v.updates n,
-      updates-append n (filter (λ w. not (is_free w)) a.waiting)
+      updates-append n (filter (λ w. not (is_free_content w)) a.waiting)
           (fresh goaway ∷ []),
-      updates-kept n (λ w. not (is_free w)) a.waiting,
+      updates-kept n (λ w. not (is_free_content w)) a.waiting,
     );
   })
     where
       behind-goaway : (P : Waiting → Type 0) → P (fresh goaway) → All P a.waiting
-          → All P (filter (λ w. not (is_free w)) a.waiting ++ fresh goaway ∷ [])
+          → All P (filter (λ w. not (is_free_content w)) a.waiting ++ fresh goaway ∷ [])
       behind-goaway P p h =
-          All-append P (filter (λ w. not (is_free w)) a.waiting) (fresh goaway ∷ [])
-          (All-filter (λ w. not (is_free w)) P a.waiting h) (All-cons P (fresh goaway) [] p (All-nil P))
+          All-append P (filter (λ w. not (is_free_content w)) a.waiting) (fresh goaway ∷ [])
+          (All-filter (λ w. not (is_free_content w)) P a.waiting h) (All-cons P (fresh goaway) [] p (All-nil P))
 
 pub fail-sound : (code : ℕ) (a : Account) → CallsSound a → CallsSound (violated code a)
 fail-sound code a s =
     let goaway : Waiting = fresh (frame.GoAway (last_of_peer a) code) in
     record {
-      left = All-append (λ w. has_left w ≡ true) (filter (λ w. not (is_free w)) a.waiting) (goaway ∷ [])
-          (All-filter (λ w. not (is_free w)) (λ w. has_left w ≡ true) a.waiting s.left)
+      left = All-append (λ w. has_left w ≡ true) (filter (λ w. not (is_free_content w)) a.waiting) (goaway ∷ [])
+          (All-filter (λ w. not (is_free_content w)) (λ w. has_left w ≡ true) a.waiting s.left)
           (All-cons (λ w. has_left w ≡ true) goaway [] (fresh-left goaway.frame) (All-nil (λ w. has_left w ≡ true)));
       holds = All-nil (λ x. may_be_held (violated code a).log x ≡ true);
       lost = λ n. absurd cc;

@@ -7,7 +7,7 @@ use Rattle.h2_frames.specs.declared.frame.Frame.{Frame}
 use Rattle.h2_frames.specs.declared.frame.Frame.TheVariants as frame
 use Rattle.h2_model.specs.Log.{LogEntry, Handed, Owed}
 use Rattle.h2_model.specs.Streams.{is_opened, is_live, is_reset, is_ended_here}
-use Rattle.h2_model.specs.Queue.{fresh, is_free, whole_within}
+use Rattle.h2_model.specs.Queue.{fresh, is_free_content, whole_within}
 use Rattle.h2_model.specs.Account.{Account}
 use Rattle.h2_model.specs.Calls.{is_open_here}
 use Rattle.h2_model.specs.History.{frame_in, noted, queue_with, handed, released, is_of, headed, violated, last_of_peer, answered, called, Take}
@@ -121,9 +121,9 @@ violated-counted code a c =
     counted-grows (one goaway) a (violated code a) (λ k. refl) (λ k. refl) (record {
       most = λ m. omega (
         arith,
-        sum_by-append (λ w. m w.frame) (filter (λ w. not (is_free w)) a.waiting) (fresh goaway ∷ []),
+        sum_by-append (λ w. m w.frame) (filter (λ w. not (is_free_content w)) a.waiting) (fresh goaway ∷ []),
         sum_by-cons (λ w. m w.frame) (fresh goaway) [],
-        sum-filter (λ w. not (is_free w)) (λ w. m w.frame) a.waiting,
+        sum-filter (λ w. not (is_free_content w)) (λ w. m w.frame) a.waiting,
       );
       reset = λ k r. r;
       ended = λ k e. e;

@@ -4,7 +4,7 @@ use Rattle.h2_frames.specs.declared.frame.Frame.{Frame}
 use Rattle.h2_frames.specs.declared.frame.Frame.TheVariants as frame
 use Rattle.h2_model.specs.Log.{LogEntry}
 use Rattle.h2_model.specs.Blocks.{table_after}
-use Rattle.h2_model.specs.Queue.{Waiting, fresh, is_free, entered, behind, whole_within}
+use Rattle.h2_model.specs.Queue.{Waiting, fresh, is_free_content, entered, behind, whole_within}
 use Rattle.h2_model.specs.History.{frame_in, is_of, own_settings, first_bytes}
 use Rattle.h2_model.specs.State.{State}
 use Rattle.h2_model.specs.Moves.{sending, queueing, giving_all}
@@ -60,5 +60,5 @@ unfoldable pub failing : ℕ → ℕ → State → State
 failing last code s = record s {
   violation = Some code;
   held = [];
-  waiting = filter (λ w. not (is_free w)) s.waiting ++ fresh (frame.GoAway last code) ∷ [];
+  waiting = filter (λ w. not (is_free_content w)) s.waiting ++ fresh (frame.GoAway last code) ∷ [];
 }

@@ -10,7 +10,7 @@ use Rattle.h2_model.specs.Codes.{protocol_error, refused_stream}
 use Rattle.h2_model.specs.Log.{LogEntry, Log, Opened, Received, Block, Violated, Handed, Owed, Given, Reported, stream_of, violation, is_empty}
 use Rattle.h2_model.specs.Streams.{opened, is_opened, greatest, is_reset, live_streams}
 use Rattle.h2_model.specs.Blocks.{OpenBlock, whole_block}
-use Rattle.h2_model.specs.Queue.{fresh, is_free, has_bytes, entered, behind, whole_within}
+use Rattle.h2_model.specs.Queue.{fresh, is_free, is_free_content, has_bytes, entered, behind, whole_within}
 use Rattle.h2_model.specs.Account.{Account, is_headless}
 use Rattle.h2_model.specs.Violations.{violation_of}
 use Rattle.h2_model.specs.Duties.{owed_for, events_of}
@@ -109,15 +109,15 @@ accepted f a =
 abbrev pub last_of_peer : Account → ℕ
 last_of_peer a = if a.client then 0 else greatest (opened a.log)
 
--- GOAWAY goes behind the frames that wait (RFC 9113 section 6.8); DATA that waits is dropped, but for a begun frame
+-- GOAWAY goes behind the frames that wait (RFC 9113 section 6.8); DATA that waits is dropped, but for a begun frame and ends
 abbrev pub violated : ℕ → Account → Account
 violated code a =
     let goaway : Frame = frame.GoAway (last_of_peer a) code in
     record a {
       log = Owed goaway ∷ Violated code ∷ a.log;
       held = [];
-      lost = a.held ++ map (λ w. Handed w.frame) (filter is_free a.waiting);
-      waiting = filter (λ w. not (is_free w)) a.waiting ++ fresh goaway ∷ [];
+      lost = a.held ++ map (λ w. Handed w.frame) (filter is_free_content a.waiting);
+      waiting = filter (λ w. not (is_free_content w)) a.waiting ++ fresh goaway ∷ [];
     }
 
 abbrev pub arrived_by : Option ℕ → Frame → Account → Account

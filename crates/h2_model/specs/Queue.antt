@@ -44,6 +44,10 @@ has_bytes _ = false
 abbrev pub is_free : Waiting → Bool
 is_free w = is_data w.frame && not w.fixed
 
+-- of that, content, which a connection error drops; an end stays
+abbrev pub is_free_content : Waiting → Bool
+is_free_content w = is_free w && has_bytes w.frame
+
 abbrev pub is_reset_frame : Frame → Bool
 is_reset_frame (frame.Reset id code) = true
 is_reset_frame _ = false

@@ -1,12 +1,12 @@
 -- The DATA that waits and is held, as frames come and go.
-use Rattle.std.proofs.Common.{arith, ◌≡◌, ◌≤◌, ◌<◌, ◌+◌, ◌-◌, ℕ, Bool, true, false, not, List, [], ◌∷◌, ◌++◌, length, get_or, take, drop, refl, sym, ap, ◌∙◌, filter, if◌then◌else◌, ◌==◌, nat_lt}
+use Rattle.std.proofs.Common.{arith, ◌≡◌, ◌≤◌, ◌<◌, ◌+◌, ◌-◌, ℕ, Bool, true, false, List, [], ◌∷◌, ◌++◌, length, get_or, take, drop, refl, sym, ap, ◌∙◌, filter, if◌then◌else◌, ◌==◌, nat_lt}
 use Rattle.std.proofs.lemmas.List.{take_more, take-append-drop}
 use Rattle.h2_laws_log.proofs.Queues.{held-append, held-split, queued-cons, queued-split}
 use Rattle.h2_frames.specs.declared.frame.Frame.{Frame}
 use Rattle.h2_frames.specs.declared.frame.Frame.TheVariants as frame
 use Rattle.h2_model.specs.Log.{LogEntry, Handed}
 use Rattle.h2_model.specs.Moves.{is_dropped_entry, kept_held}
-use Rattle.h2_model.specs.Queue.{Waiting, is_free, fresh, placed, entered, queued, data_in, behind}
+use Rattle.h2_model.specs.Queue.{Waiting, is_data, queued, data_in, behind}
 use Rattle.h2_model.specs.Windows.{held_data}
 use Rattle.h2_sender.specs.Sending.{entry_of, IsHeld, IsGoaway}
 use Rattle.h2_sender.proofs.Totals.{data_of_one}
@@ -61,7 +61,7 @@ queued-behind n (w ∷ queue) = by_test (n == 0) (nat_lt n (length w.left)) (que
       omega arith
   by_test false false h = omega (arith, queued-cons 0 w queue)
 
--- GOAWAY goes last where nothing is free
+-- GOAWAY is no DATA
 
 is_goaway : (P : Frame → Type 0) → ((last code : ℕ) → P (frame.GoAway last code)) → (f : Frame) → IsGoaway f → P f
 is_goaway P of_goaway (frame.GoAway last code) h = of_goaway last code
@@ -80,22 +80,5 @@ is_goaway P of_goaway (frame.Unknown _) h = elim h [ ]
 pub goaway_no_data : (f : Frame) → IsGoaway f → data_in 0 f ≡ 0
 goaway_no_data = is_goaway (λ f. data_in 0 f ≡ 0) (λ last code. refl)
 
-last_goaway : (last code : ℕ) (queue : List Waiting)
-    → placed (fresh (frame.GoAway last code)) (filter (λ w. not (is_free w)) queue)
-    ≡ filter (λ w. not (is_free w)) queue ++ fresh (frame.GoAway last code) ∷ []
-last_goaway last code [] = refl
-last_goaway last code (w ∷ queue) = by_test (is_free w) refl (last_goaway last code queue) where
-  goaway : Waiting
-  goaway = fresh (frame.GoAway last code)
-
-  rest : List Waiting
-  rest = filter (λ v. not (is_free v)) queue
-
-  by_test : (free : Bool) → is_free w ≡ free → placed goaway rest ≡ rest ++ goaway ∷ []
-      → placed goaway (if not free then w ∷ rest else rest) ≡ (if not free then w ∷ rest else rest) ++ goaway ∷ []
-  by_test true e ih = ih
-  by_test false e ih = rw e (ap (λ ws. w ∷ ws) ih)
-
-pub goaway_last : (queue : List Waiting) (f : Frame) → IsGoaway f
-    → entered f (filter (λ w. not (is_free w)) queue) ≡ filter (λ w. not (is_free w)) queue ++ fresh f ∷ []
-goaway_last queue = is_goaway (λ f. entered f (filter (λ w. not (is_free w)) queue) ≡ filter (λ w. not (is_free w)) queue ++ fresh f ∷ []) (λ last code. last_goaway last code queue)
+pub goaway_control : (f : Frame) → IsGoaway f → is_data f ≡ false
+goaway_control = is_goaway (λ f. is_data f ≡ false) (λ last code. refl)

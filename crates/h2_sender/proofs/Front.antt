@@ -1,9 +1,9 @@
 -- The front of a queue, as frames enter and leave it.
-use Rattle.std.proofs.Common.{arith, ◌≡◌, ◌≤◌, ◌<◌, ◌+◌, ◌-◌, Bool, true, false, not, ◌&&◌, ◌||◌, ◌==◌, List, [], ◌∷◌, length, cond, get_or, take, drop, zero, suc, ℕ, refl, ap, sym, subst}
+use Rattle.std.proofs.Common.{arith, ◌≡◌, ◌≤◌, ◌<◌, ◌+◌, ◌-◌, Bool, true, false, not, ◌&&◌, ◌||◌, ◌==◌, List, [], ◌∷◌, ◌++◌, length, cond, get_or, drop, zero, suc, ℕ, refl, ap, sym, subst}
 use Rattle.std.specs.List.{list_any, filter, insert, remove}
 use Rattle.h2_model.specs.Log.{stream_of}
 use Rattle.h2_model.specs.Moves.{is_dropped}
-use Rattle.h2_model.specs.Queue.{Waiting, goes_last, is_data, is_free, is_free_of, stays_behind}
+use Rattle.h2_model.specs.Queue.{Waiting, goes_last, is_data, is_free, is_free_content, is_free_of, stays_behind}
 use Rattle.h2_sender.specs.Places.{place_of, IsFront}
 use Rattle.h2_sender.proofs.Placed.{is_passed}
 
@@ -30,6 +30,11 @@ front_entered zero at x queue h l = tt
 front_entered (suc n) at x [] h l = absurd h
 front_entered (suc n) zero x (w ∷ queue) h l = absurd (omega arith)
 front_entered (suc n) (suc at) x (w ∷ queue) h l = (h.0, front_entered n at x queue h.1 (omega arith))
+
+pub front_before : (n : ℕ) (queue more : List Waiting) → IsFront n queue → IsFront n (queue ++ more)
+front_before zero queue more h = tt
+front_before (suc n) [] more h = absurd h
+front_before (suc n) (w ∷ queue) more h = (h.0, front_before n queue more h.1)
 
 pub front_joined : (n at : ℕ) (x : Waiting) (queue : List Waiting) → IsFront n queue → at ≡ n → is_free x ≡ false → IsFront (n + 1) (insert queue at x)
 front_joined n at x queue h e free =
@@ -110,8 +115,8 @@ free_of_none id w e = rw e refl
 dropped_none : (id : ℕ) (w : Waiting) → is_free w ≡ false → is_dropped id w ≡ false
 dropped_none id w e = rw e refl
 
-pub kept_unless_free : (w : Waiting) → is_free w ≡ false → not (is_free w) ≡ true
-kept_unless_free w e = rw e refl
+pub kept_unless_free_content : (w : Waiting) → is_free w ≡ false → not (is_free_content w) ≡ true
+kept_unless_free_content w e = rw e refl
 
 pub kept_unless_dropped : (id : ℕ) (w : Waiting) → is_free w ≡ false → not (is_dropped id w) ≡ true
 kept_unless_dropped id w e = rw (dropped_none id w e) refl
@@ -120,11 +125,6 @@ pub no_free_in : (id n : ℕ) (queue : List Waiting) → IsFront n queue → fil
 no_free_in id zero queue h e = e
 no_free_in id (suc n) [] h e = absurd h
 no_free_in id (suc n) (w ∷ queue) h e = rw (free_of_none id w h.0) (no_free_in id n queue h.1 e)
-
-pub none_dropped_in : (id n : ℕ) (queue : List Waiting) → IsFront n queue → list_any (is_dropped id) (take n queue) ≡ false
-none_dropped_in id zero queue h = refl
-none_dropped_in id (suc n) [] h = absurd h
-none_dropped_in id (suc n) (w ∷ queue) h = rw (dropped_none id w h.0) (none_dropped_in id n queue h.1)
 
 -- where no frame is dropped, all stay
 pub all_kept : (p : Waiting → Bool) (queue : List Waiting) → list_any p queue ≡ false → filter (λ w. not (p w)) queue ≡ queue

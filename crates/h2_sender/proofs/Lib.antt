@@ -8,3 +8,5 @@ pub mod Gives
 pub mod Data
 pub mod Release
 pub mod Bounds
+pub mod Streams
+pub mod Shared

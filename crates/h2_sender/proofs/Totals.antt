@@ -1,12 +1,12 @@
 -- Sums over a queue after a frame entered, frames went away or were placed anew.
-use Rattle.std.proofs.Common.{arith, rules, ◌≡◌, ◌≤◌, ◌<◌, ◌+◌, ◌-◌, ◌^◌, Bool, true, false, not, List, [], ◌∷◌, length, map, cond, min, ◌==◌, ◌||◌, ℕ, refl, ap, sym, ◌∙◌}
+use Rattle.std.proofs.Common.{arith, rules, ◌≡◌, ◌≤◌, ◌<◌, ◌+◌, ◌-◌, ◌^◌, Bool, true, false, not, List, [], ◌∷◌, ◌++◌, length, map, cond, min, ◌==◌, ◌||◌, ℕ, refl, ap, sym, ◌∙◌}
 use Rattle.std.specs.List.{filter, All}
 use Rattle.std.proofs.lemmas.List.Filters.{sum_by-filter_both}
-use Rattle.std.proofs.lemmas.List.Elements.{All-cons, All-head, All-tail, All-filter, All-nil}
-use Rattle.std.proofs.lemmas.List.Sums.{sum_by-cons, sum_by-le-sum_by, sum_by-insert}
+use Rattle.std.proofs.lemmas.List.Elements.{All-cons, All-head, All-tail, All-filter, All-nil, All-append}
+use Rattle.std.proofs.lemmas.List.Sums.{sum_by-cons, sum_by-le-sum_by, sum_by_push, sum_by-insert}
 use Rattle.h2_frames.specs.declared.frame.Frame.{Frame}
 use Rattle.h2_frames.specs.declared.frame.Frame.TheVariants as frame
-use Rattle.h2_model.specs.Queue.{Waiting, placed, all_placed, is_free, is_free_of, with_place, with_end_placed, entered, fresh, is_reset_frame, data_in, bytes_of, queued, unsent, control_bytes, is_data}
+use Rattle.h2_model.specs.Queue.{Waiting, placed, all_placed, is_free, is_free_of, with_place, with_end_placed, entered, fresh, is_reset_frame, data_in, bytes_of, queued, control_bytes, is_data}
 use Rattle.h2_model.specs.Log.{stream_of}
 use Rattle.h2_sender.specs.Places.{place_of, ready_for}
 use Rattle.h2_sender.specs.Queue.{HasLeft, IsCounted}
@@ -137,12 +137,6 @@ pub queued_of_one : (id : ℕ) (queue : List Waiting) → queued id queue ≤ qu
 queued_of_one id queue =
     sum_by-le-sum_by (λ (w : Waiting). data_in id w.frame) (λ (w : Waiting). data_in 0 w.frame) queue (λ w. data_of_one id w.frame)
 
-pub unsent_of_one : (id : ℕ) (queue : List Waiting) → unsent id queue ≤ queued 0 queue
-unsent_of_one id queue =
-    let some : unsent id queue ≤ queued id queue = sum_by-le-sum_by (λ (w : Waiting). min (data_in id w.frame) (length w.left)) (λ (w : Waiting). data_in id w.frame) queue (λ w. omega arith) in
-    let all = queued_of_one id queue in
-    omega arith
-
 -- only some frames stay, and no DATA goes that is no free one
 control_kept : (p : Waiting → Bool) → ((w : Waiting) → is_free w ≡ false → p w ≡ true) → (queue : List Waiting) → control_bytes (filter p queue) ≡ control_bytes queue
 control_kept p keeps [] = refl
@@ -181,6 +175,41 @@ counted_kept p keeps queue n c m next h front =
       front = front;
     }
 
+-- and a frame that is no DATA goes behind them
+pub counted_last : (p : Waiting → Bool) → ((w : Waiting) → is_free w ≡ false → p w ≡ true) → (queue : List Waiting) (f : Frame) (n c m next : ℕ) → IsCounted queue n c m → is_data f ≡ false
+    → IsFront next (filter p queue ++ fresh f ∷ [])
+    → IsCounted (filter p queue ++ fresh f ∷ []) (queued 0 (filter p queue ++ fresh f ∷ [])) (min (c + control_in (fresh f)) (2 ^ 64 - 1)) next
+counted_last p keeps queue f n c m next h e front =
+    let fewer = queued_kept 0 p queue in
+    let none : data_in 0 f ≡ 0 = no_data f e in
+    let data_sum : queued 0 (filter p queue ++ fresh f ∷ []) ≡ queued 0 (filter p queue) + data_in 0 f = sum_by_push (λ (w : Waiting). data_in 0 w.frame) (filter p queue) (fresh f) in
+    let counted : n ≡ queued 0 queue = h.counted in
+    let bound : n ≤ 2 ^ 40 = h.bound in
+    let control : c ≡ min (control_bytes queue) (2 ^ 64 - 1) = h.control in
+    let stays : control_bytes (filter p queue) ≡ control_bytes queue = control_kept p keeps queue in
+    let more : control_bytes (filter p queue ++ fresh f ∷ []) ≡ control_bytes (filter p queue) + control_in (fresh f) = sum_by_push control_in (filter p queue) (fresh f) in
+    record {
+      left = All-append HasLeft (filter p queue) (fresh f ∷ []) (All-filter p HasLeft queue h.left) (All-cons HasLeft (fresh f) [] (some_bytes f) (All-nil HasLeft));
+      counted = refl;
+      bound = omega arith;
+      control = omega arith;
+      front = front;
+    }
+  where
+    no_data : (f : Frame) → is_data f ≡ false → data_in 0 f ≡ 0
+    no_data (frame.Data id bytes last size) e = absurd cc
+    no_data (frame.Headers id block last ends) e = refl
+    no_data (frame.Priority id) e = refl
+    no_data (frame.Reset id code) e = refl
+    no_data (frame.Settings list) e = refl
+    no_data frame.SettingsAck e = refl
+    no_data (frame.Push id) e = refl
+    no_data (frame.Ping ack bytes) e = refl
+    no_data (frame.GoAway last code) e = refl
+    no_data (frame.Window id n) e = refl
+    no_data (frame.Continuation id part ends) e = refl
+    no_data (frame.Unknown kind) e = refl
+
 -- the first frame is given, in part or whole
 
 pub counted_some : (w next : Waiting) (queue : List Waiting) (n c m d k : ℕ) → IsCounted (w ∷ queue) n c m → next.frame ≡ w.frame → HasLeft next
@@ -199,7 +228,3 @@ counted_all w queue n c m d k h control front =
     let counted : n ≡ queued 0 (w ∷ queue) = h.counted in
     let bound : n ≤ 2 ^ 40 = h.bound in
     record { left = All-tail HasLeft w queue h.left; counted = omega arith; bound = omega arith; control = control; front = front }
-
--- where no DATA waits, none is unsent
-pub no_data : (id n : ℕ) (queue : List Waiting) → n ≡ queued 0 queue → n ≡ 0 → unsent id queue ≡ 0
-no_data id n queue e z = let less = unsent_of_one id queue in omega arith

@@ -23,3 +23,9 @@ pub record IsCounted (frames : List Waiting) (data_bytes control_count front_cou
 -- a frame of a stream that is no window update waits
 abbrev pub waits_for : ℕ → Waiting → Bool
 waits_for id w = (stream_of w.frame == id) && not (is_window w.frame)
+
+-- so many frames fit, and the shares of as many streams, without taking memory
+pub record IsReserved (most waiting frames_room shares_room : ℕ) : Type 0 where
+  pub few : waiting ≤ most
+  pub frames : most ≤ frames_room
+  pub shares : most ≤ shares_room

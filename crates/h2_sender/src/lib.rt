@@ -9,6 +9,7 @@ mod outgoing;
 mod places;
 mod queue;
 mod sender;
+mod shares;
 mod sums;
 
 pub use queue::Taken;

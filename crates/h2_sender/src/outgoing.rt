@@ -1,13 +1,13 @@
 //! One frame that waits.
 
-ghost use Rattle.std.specs.Prelude.{◌≡◌, ◌<◌, ◌≤◌, ◌+◌, ◌^◌, ◌++◌, ◌&&◌, false, true, [], length, take, drop, min, if◌then◌else◌, ◌==◌};
+ghost use Rattle.std.specs.Prelude.{◌≡◌, ◌<◌, ◌≤◌, ◌+◌, ◌^◌, ◌++◌, not, false, true, [], length, take, drop, min, if◌then◌else◌, ◌==◌};
 ghost use Rattle.h2_model.specs.History.{preface};
 ghost use Rattle.h2_model.specs.Log.{stream_of};
 ghost use Rattle.h2_model.specs.Moves.{is_dropped};
-ghost use Rattle.h2_model.specs.Queue.{is_data, goes_last, is_free, is_free_of, stays_behind, with_place, fresh, bytes_of, data_in};
+ghost use Rattle.h2_model.specs.Queue.{is_data, goes_last, is_free, is_free_content, is_free_of, stays_behind, with_place, fresh, bytes_of, data_in};
 ghost use Rattle.h2_frames.specs.Copied.{IsCopied};
 ghost use Rattle.h2_sender.specs.Outgoing.{IsSendable, IsOutgoing, written};
-ghost use Rattle.h2_sender.specs.Queue.{waits_for};
+ghost use Rattle.h2_model.specs.Calls.{is_window};
 
 use crate::frames::{
     copy_bytes, data_in, has_bytes, is_ack, is_block, is_data, is_reset, is_window, len_of,
@@ -157,6 +157,13 @@ impl Outgoing {
         self.is_free() || is_ack(&self.frame)
     }
 
+    /// Whether it is DATA with content that other frames may pass.
+    pub(crate) fn is_free_content(&self) -> bool
+        ensures { result ≡ is_free_content self.now }
+    {
+        self.is_free() && has_bytes(&self.frame)
+    }
+
     pub(crate) fn is_free_of(&self, stream: u32) -> bool
         ensures { result ≡ is_free_of stream self.now }
     {
@@ -170,11 +177,18 @@ impl Outgoing {
         self.is_free() && has_bytes(&self.frame) && stream_of(&self.frame) == stream
     }
 
-    /// Whether it is of a stream, and no window update.
-    pub(crate) fn is_waited_for(&self, stream: u32) -> bool
-        ensures { result ≡ waits_for stream self.now }
+    /// The stream that it is of; 0 is the connection.
+    pub(crate) fn stream(&self) -> u32
+        ensures { result ≡ stream_of self.now.frame }
     {
-        stream_of(&self.frame) == stream && !is_window(&self.frame)
+        stream_of(&self.frame)
+    }
+
+    /// Whether it is no window update.
+    pub(crate) fn is_counted(&self) -> bool
+        ensures { result ≡ not (is_window self.now.frame) }
+    {
+        !is_window(&self.frame)
     }
 
     /// Whether it must stay behind an earlier frame.

@@ -4,9 +4,8 @@
 //! queue to the front, and not into it, so that control frames cost the same however many of them wait.
 
 ghost use Rattle.std.specs.Prelude.{◌≡◌, ◌<◌, ◌≤◌, ◌+◌, length};
-ghost use Rattle.std.specs.List.{insert, list_any};
+ghost use Rattle.std.specs.List.{insert};
 ghost use Rattle.std.specs.VecDeque.{deque_len, deque_capacity};
-ghost use Rattle.h2_model.specs.Moves.{is_dropped};
 ghost use Rattle.h2_model.specs.Queue.{placed, with_end_placed};
 ghost use Rattle.h2_sender.specs.Places.{place_of, ready_for, IsFront, IsLastFree};
 
@@ -82,19 +81,6 @@ pub(crate) fn place(frames: &mut VecDeque<Outgoing>, front: usize, new: Outgoing
         return front;
     }
     front + 1
-}
-
-/// Whether DATA of a stream waits that goes away with it.
-pub(crate) fn drops(frames: &VecDeque<Outgoing>, front: usize, stream: u32) -> bool
-    requires { IsFront front frames.now.items }
-    ensures { result ≡ list_any (is_dropped stream) frames.now.items }
-{
-    for i in front..frames.len() {
-        if frames[i].is_dropped(stream) {
-            return true;
-        }
-    }
-    false
 }
 
 // The last DATA of a stream that others may pass.

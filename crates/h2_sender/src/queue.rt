@@ -1,17 +1,18 @@
 //! The queue of a session's outgoing frames.
 
-ghost use Rattle.std.specs.Prelude.{◌≡◌, ◌≤◌, ◌<◌, ◌+◌, ◌-◌, ◌^◌, ◌++◌, ◌⊎◌, [], length, take, drop, min, not, filter, IfOk, OnOk, OnErr};
+ghost use Rattle.std.specs.Prelude.{◌≡◌, ◌≤◌, ◌<◌, ◌+◌, ◌-◌, ◌^◌, ◌++◌, ◌⊎◌, [], length, take, drop, min, not, filter, IfOk, OnOk, OnErr, false, ◌∷◌};
 ghost use Rattle.std.specs.List.{list_any};
 ghost use Rattle.std.specs.Option.{option_to_list};
 ghost use Rattle.h2_model.specs.History.{start, own_settings};
 ghost use Rattle.h2_model.specs.Moves.{kept_waiting};
-ghost use Rattle.h2_model.specs.Queue.{is_free, flow, behind, whole_within, queued, unsent, control_bytes, data_in, entered};
+ghost use Rattle.h2_model.specs.Queue.{is_data, is_free_content, fresh, flow, behind, whole_within, queued, unsent, control_bytes, data_in, entered};
 ghost use Rattle.h2_sender.specs.Outgoing.{IsSendable};
 ghost use Rattle.h2_sender.specs.Queue.{waits_for};
 
 use crate::frames::data_in;
 use crate::outgoing::Outgoing;
-use crate::places::{drops, front_of, make_ready, place};
+use crate::places::{front_of, make_ready, place};
+use crate::shares::{Share, bytes_of, count, frames_of, recount, uncount};
 use crate::sums;
 use h2_frames::protocol::{ENABLE_PUSH, MAX_CONCURRENT_STREAMS};
 use h2_frames::{Frame, Setting, SettingList};
@@ -37,18 +38,24 @@ pub struct FrameQueue {
     control: u64,
     // So many frames stand before the first DATA that others may pass.
     front: usize,
+    // What waits of each stream, by their numbers.
+    shares: VecDeque<Share>,
+    // There is room for so many frames, and for the shares of as many streams.
+    most: usize,
 }
 
 impl Model for FrameQueue {
     ghost use Rattle.std.specs.Prelude.{◌-◌};
     ghost use Rattle.std.specs.VecDeque.{deque_len, deque_capacity};
-    ghost use Rattle.h2_sender.specs.Queue.{Queue, IsCounted};
+    ghost use Rattle.h2_sender.specs.Queue.{Queue, IsCounted, IsReserved};
+    ghost use Rattle.h2_sender.specs.Shares.{AreShared};
 
     ghost Value = { Queue };
 
-    ghost view = { λ q. record { frames = q.frames.items; room = deque_capacity q.frames - deque_len q.frames } };
+    ghost view = { λ q. record { frames = q.frames.items; room = q.most - deque_len q.frames } };
 
-    ghost invariant = { λ q. IsCounted q.frames.items q.«data» q.control q.front };
+    ghost invariant = { λ q. IsCounted q.frames.items q.«data» q.control q.front × AreShared q.frames.items q.shares.items
+        × IsReserved q.most (deque_len q.frames) (deque_capacity q.frames) (deque_capacity q.shares) };
 }
 
 // The bytes of frames other than DATA once so many of them were given, counted to 2^64 - 1: a count that reached that
@@ -90,9 +97,11 @@ impl FrameQueue {
         ensures room { IfOk result (λ q. room ≤ q.room) }
     {
         let settings = own_settings(alloc, client)?;
-        let mut frames = VecDeque::new(alloc);
-        frames.reserve(room.saturating_add(1))?;
-        frames.push_back(Outgoing::first(settings, client))?;
+        let most = room.saturating_add(1);
+        let mut frames = VecDeque::with_capacity(alloc, most)?;
+        let mut shares = VecDeque::with_capacity(alloc, most)?;
+        frames.push_back_reserved(Outgoing::first(settings, client));
+        recount(&mut shares, &frames);
         let control = sums::control(&frames);
         let front = front_of(&frames, 0);
         Ok(FrameQueue {
@@ -100,6 +109,8 @@ impl FrameQueue {
             data: 0,
             control,
             front,
+            shares,
+            most,
         })
     }
 
@@ -109,7 +120,11 @@ impl FrameQueue {
         ensures room { OnOk result (n ≤ self.new.room) }
         ensures kept { self.old.room ≤ self.new.room }
     {
-        self.frames.reserve(n)
+        self.frames.reserve(n)?;
+        let most = self.frames.len() + n;
+        self.shares.reserve(most.saturating_sub(self.shares.len()))?;
+        self.most = self.most.max(most);
+        Ok(())
     }
 
     /// A frame enters at its place: DATA and an acknowledgement at the end, and another frame before DATA that it
@@ -128,6 +143,7 @@ impl FrameQueue {
         let front = make_ready(&mut self.frames, self.front, &frame);
         let new = Outgoing::fresh(frame);
         self.control = self.control.saturating_add(new.control());
+        count(&mut self.shares, &new);
         self.front = place(&mut self.frames, front, new);
         self.data += added;
     }
@@ -138,23 +154,31 @@ impl FrameQueue {
         ensures dropped { result ≡ queued 0 self.old.frames - queued 0 self.new.frames }
         ensures capacity { self.old.room + length self.old.frames ≤ self.new.room + length self.new.frames }
     {
-        if !drops(&self.frames, self.front, stream) {
+        if bytes_of(&self.shares, stream) == 0 {
             return 0;
         }
         let before = self.data;
         self.frames.retain(|w| !w.is_dropped(stream));
+        recount(&mut self.shares, &self.frames);
         self.data = sums::queued(&self.frames, 0);
         self.front = front_of(&self.frames, self.front);
         before - self.data
     }
 
-    /// Drops all DATA that others may pass.
-    pub fn drop_free(&mut self)
-        ensures frames { self.new.frames ≡ filter (λ w. not (is_free w)) self.old.frames }
-        ensures room { self.old.room ≤ self.new.room }
+    /// Drops all content that other frames may pass, and puts a frame that is no DATA behind all that is left.
+    pub fn end(&mut self, last: Frame)
+        requires sendable { IsSendable last }
+        requires control { is_data last ≡ false }
+        requires room { 0 < self.old.room }
+        ensures frames { self.new.frames
+            ≡ filter (λ w. not (is_free_content w)) self.old.frames ++ fresh last ∷ [] }
         ensures capacity { self.old.room + length self.old.frames ≤ self.new.room + length self.new.frames }
     {
-        self.frames.retain(|w| !w.is_free());
+        self.frames.retain(|w| !w.is_free_content());
+        let new = Outgoing::fresh(last);
+        self.control = self.control.saturating_add(new.control());
+        self.frames.push_back_reserved(new);
+        recount(&mut self.shares, &self.frames);
         self.data = sums::queued(&self.frames, 0);
         self.front = front_of(&self.frames, self.front);
     }
@@ -183,10 +207,12 @@ impl FrameQueue {
                 whole: None,
             };
         };
-        let before = first.control();
+        let (control, unsent) = (first.control(), first.unsent(0));
         let bytes = first.give(out) as u32;
-        let given = before - first.control();
-        if first.left() > 0 {
+        let given = control - first.control();
+        let whole = first.left() == 0;
+        uncount(&mut self.shares, &first, whole, unsent - first.unsent(0));
+        if !whole {
             frames.push_front_reserved(first);
             self.control = control_behind(&self.frames, self.control, given);
             self.front = front_of(&self.frames, self.front);
@@ -209,15 +235,13 @@ impl FrameQueue {
         self.data
     }
 
-    /// How many bytes of DATA for a stream, or, for stream 0, for any, weren't given.
+    /// How many bytes of DATA for a stream weren't given.
     pub fn unsent(&self, stream: u32) -> u64
+        requires { 0 < stream }
         ensures count { result ≡ unsent stream self.now.frames }
         ensures bound { result ≤ 2 ^ 40 }
     {
-        if self.data == 0 {
-            return 0;
-        }
-        sums::unsent(&self.frames, stream)
+        bytes_of(&self.shares, stream)
     }
 
     /// How many bytes wait that are no part of DATA, counted to 2^64 - 1.
@@ -231,11 +255,6 @@ impl FrameQueue {
     pub fn waits(&self, stream: u32) -> bool
         ensures { result ≡ list_any (waits_for stream) self.now.frames }
     {
-        for i in 0..self.frames.len() {
-            if self.frames[i].is_waited_for(stream) {
-                return true;
-            }
-        }
-        false
+        frames_of(&self.shares, stream) > 0
     }
 }

@@ -3,7 +3,7 @@
 ghost use Rattle.std.specs.Prelude.{◌≡◌, ◌≤◌, ◌<◌, ◌+◌, ◌-◌, ◌^◌, ◌++◌, ◌∷◌, [], length, true, false, not, filter, IfOk, OnOk, OnErr, pos, ◌+ℤ◌, ◌-ℤ◌, ◌≤ℤ◌, ◌⊎◌, nat_le, min, take, drop, vec_len, vec_capacity};
 ghost use Rattle.h2_model.specs.History.{start, is_of};
 ghost use Rattle.h2_model.specs.Moves.{kept_waiting, kept_held};
-ghost use Rattle.h2_model.specs.Queue.{entered, data_in, is_free, fresh, flow, behind, whole_within};
+ghost use Rattle.h2_model.specs.Queue.{entered, data_in, is_free_content, fresh, flow, behind, whole_within};
 ghost use Rattle.h2_sender.specs.Outgoing.{IsSendable};
 ghost use Rattle.std.specs.List.{list_any};
 ghost use Rattle.std.specs.Option.{option_to_list};
@@ -180,20 +180,21 @@ impl Sender {
         self.held.as_slice().len()
     }
 
-    /// A connection error: DATA that wasn't begun is dropped, and so is what is held. GOAWAY goes last.
+    /// A connection error: content of which no byte was given is dropped, and so is what is held. GOAWAY goes last, behind
+    /// ends that wait.
     pub fn fail(&mut self, goaway: Frame)
         requires goaway { IsGoaway goaway }
         requires room { 0 < self.old.room }
-        ensures waiting { self.new.waiting ≡ filter (λ w. not (is_free w)) self.old.waiting ++ fresh goaway ∷ [] }
+        ensures waiting { self.new.waiting
+            ≡ filter (λ w. not (is_free_content w)) self.old.waiting ++ fresh goaway ∷ [] }
         ensures held { self.new.held ≡ [] }
         ensures window { self.new.window ≡ self.old.window }
         ensures capacity { self.old.room + length self.old.waiting ≤ self.new.room + length self.new.waiting }
         ensures held_capacity { self.old.held_room + length self.old.held ≤ self.new.held_room + length self.new.held }
     {
-        self.queue.drop_free();
+        self.queue.end(goaway);
         self.held.clear();
         self.held_data = 0;
-        self.queue.enter(goaway);
     }
 
     pub fn take(&mut self, out: &mut [u8]) -> Taken

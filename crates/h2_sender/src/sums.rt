@@ -1,7 +1,7 @@
 //! Sums over the frames of the queue.
 
 ghost use Rattle.std.specs.Prelude.{◌≡◌, ◌≤◌, ◌-◌, ◌^◌, min, sum_by};
-ghost use Rattle.h2_model.specs.Queue.{queued, unsent, control_bytes};
+ghost use Rattle.h2_model.specs.Queue.{queued, control_bytes};
 
 use crate::outgoing::Outgoing;
 use std::collections::VecDeque;
@@ -16,18 +16,6 @@ pub(crate) fn queued(frames: &VecDeque<Outgoing>, stream: u32) -> u64
     let mut sum = 0;
     for i in 0..frames.len() {
         sum += frames[i].data(stream);
-    }
-    sum
-}
-
-/// The bytes of DATA for a stream that weren't given.
-pub(crate) fn unsent(frames: &VecDeque<Outgoing>, stream: u32) -> u64
-    requires { unsent stream frames.now.items ≤ 2 ^ 40 }
-    ensures { result ≡ unsent stream frames.now.items }
-{
-    let mut sum = 0;
-    for i in 0..frames.len() {
-        sum += frames[i].unsent(stream);
     }
     sum
 }

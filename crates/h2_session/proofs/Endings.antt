@@ -6,7 +6,7 @@ use Rattle.h2_model.specs.Streams.{opened}
 use Rattle.h2_frames.specs.declared.frame.Frame.TheVariants as frame
 use Rattle.h2_model.specs.declared.answers.SessionFault.{SessionFault}
 use Rattle.h2_model.specs.declared.answers.SessionFault.TheVariants.{Code, Memory}
-use Rattle.h2_model.specs.Queue.{Waiting, fresh, is_free}
+use Rattle.h2_model.specs.Queue.{Waiting, fresh, is_free_content}
 use Rattle.h2_model.specs.Account.{Account, is_headless}
 use Rattle.h2_model.specs.History as history
 use Rattle.h2_model.specs.History.{violated}
@@ -50,7 +50,7 @@ same-twice k m l s t = record {
 goaway-comes : (k l : Kept) (code : ℕ) → l.state ≡ failing (last_of_peer k) code k.state → Comes 1 k.state l.state
 unfolding failing
 goaway-comes k l code e = rw e (record {
-  queued = omega (arith, length-filtered (λ w. not (is_free w)) k.state.waiting, longer (filter (λ w. not (is_free w)) k.state.waiting) (fresh (frame.GoAway (last_of_peer k) code)));
+  queued = omega (arith, length-filtered (λ w. not (is_free_content w)) k.state.waiting, longer (filter (λ w. not (is_free_content w)) k.state.waiting) (fresh (frame.GoAway (last_of_peer k) code)));
   kept = omega arith;
   streams = le_refl (length k.state.streams);
 })

@@ -9,6 +9,6 @@ pub returns-clause-frames : goal.returns-clause-frames
 unfolding start
 returns-clause-frames c =
     let waiting : Frame → Waiting = λ f. record { frame = f; left = cond c.args.client preface [] ++ bytes_of f; fixed = false } in
-    c.in_ok-push_back.ensures.items
-    ∙ ap (λ (q : List Waiting). q ++ c.first.result ∷ []) (c.in_ok-reserve.ensures.items ∙ c.new-frames.ensures.items)
+    c.push_back_reserved.ensures.items
+    ∙ ap (λ (q : List Waiting). q ++ c.first.result ∷ []) c.in_ok-frames.ensures.items
     ∙ ap (λ (w : Waiting). w ∷ []) (c.first.ensures ∙ ap waiting c.in_ok-settings.ensures)

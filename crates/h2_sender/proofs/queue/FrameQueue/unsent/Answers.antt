@@ -1,26 +1,23 @@
--- One stream has no more DATA than all.
-use Rattle.std.proofs.Common.{arith, ◌≡◌, ◌≤◌, ◌^◌, sym, ap, ◌∙◌}
-use Rattle.h2_model.specs.Queue.{queued, unsent}
+-- The stream's share.
+use Rattle.std.proofs.Common.{arith, ◌≡◌, ◌≤◌, ◌^◌, List, ap, ◌∙◌}
+use Rattle.std.specs.List.{sum_by}
+use Rattle.h2_model.specs.Queue.{Waiting, queued, unsent}
 use Rattle.h2_sender.specs.Queue.{Queue}
-use Rattle.h2_sender.proofs.Totals.{unsent_of_one, no_data}
+use Rattle.h2_sender.specs.Shares.{bytes_of, bytes_for}
+use Rattle.h2_sender.proofs.Shared.{bytes_within, unsent_shared}
 use Rattle.h2_sender.proofs.queue.FrameQueue.unsent.Goals as goal
 
-pub unsent-requires : goal.unsent-requires
-unsent-requires c =
-    let one = unsent_of_one c.args.stream c.self.inside.frames.items in
-    let counted : c.self.inside.«data» ≡ queued 0 c.self.inside.frames.items = c.self.invariant.counted in
-    let bound : c.self.inside.«data» ≤ 2 ^ 40 = c.self.invariant.bound in
-    omega arith
+pub returns-clause-count : goal.returns-clause-count
+returns-clause-count c =
+    c.bytes_of.ensures ∙ c.self.invariant.1.bytes c.args.stream ∙ unsent_shared c.args.stream c.self.inside.frames.items c.requires
+    ∙ ap (λ (q : Queue). unsent c.args.stream q.frames) c.self.view_is
 
 pub returns-clause-bound : goal.returns-clause-bound
 returns-clause-bound c =
-    let sum : c.unsent.result ≡ unsent c.args.stream c.self.inside.frames.items = c.unsent.ensures in
-    let one = unsent_of_one c.args.stream c.self.inside.frames.items in
-    let counted : c.self.inside.«data» ≡ queued 0 c.self.inside.frames.items = c.self.invariant.counted in
-    let bound : c.self.inside.«data» ≤ 2 ^ 40 = c.self.invariant.bound in
+    let queue : List Waiting = c.self.inside.frames.items in
+    let share : c.bytes_of.result ≡ bytes_of c.args.stream c.self.inside.shares.items = c.bytes_of.ensures in
+    let is : bytes_of c.args.stream c.self.inside.shares.items ≡ sum_by (bytes_for c.args.stream) queue = c.self.invariant.1.bytes c.args.stream in
+    let one : sum_by (bytes_for c.args.stream) queue ≤ queued 0 queue = bytes_within c.args.stream queue in
+    let counted : c.self.inside.«data» ≡ queued 0 queue = c.self.invariant.0.counted in
+    let bound : c.self.inside.«data» ≤ 2 ^ 40 = c.self.invariant.0.bound in
     omega arith
-
-pub returns-then-self-eq0-clause-count : goal.returns-then-self-eq0-clause-count
-returns-then-self-eq0-clause-count c =
-    sym (ap (λ (q : Queue). unsent c.args.stream q.frames) (sym c.self.view_is)
-    ∙ no_data c.args.stream c.self.inside.«data» c.self.inside.frames.items c.self.invariant.counted c.if-self-eq0.true)
