@@ -113,7 +113,30 @@ fn measure_flood(
     )
 }
 
-/// Two rows for each flood. Resets of a peer leave no frame, so they come behind PINGs.
+// A row: what is asked of a stream behind so many frames that wait, for each of so many streams.
+fn measure_questions(rt: &HostRuntime, waiting: u32) -> Result<()> {
+    let from = FULL * 2 + 1;
+    let setup = flood_of(rt.alloc(), Flood::Refused, from, waiting)?;
+    let mut server = server_with(rt.alloc(), FULL)?;
+    feed(&mut server, setup.as_slice())?;
+    let mut found: u64 = 0;
+    let start = Instant::now(rt)?;
+    for round in 0..ROUNDS * FRAMES {
+        let stream = from.saturating_add((round % FRAMES) * 2);
+        if server.waits(stream) && server.waiting(stream) == 0 {
+            found = found.saturating_add(1);
+        }
+    }
+    let nanos = nanos_since(rt, start)?;
+    let asked = u64::from(ROUNDS * FRAMES);
+    if found != asked {
+        bail!("a frame doesn't wait");
+    }
+    print_row(rt, "questions", u64::from(waiting), nanos, asked)
+}
+
+/// Two rows for each flood, and for questions behind frames that wait. Resets of a peer leave no frame, so they come
+/// behind PINGs.
 pub fn measure(rt: &HostRuntime) -> Result<()> {
     for waiting in [1_000, 7_000] {
         measure_flood(rt, "pings", Flood::Pings, Flood::Pings, waiting)?;
@@ -121,6 +144,7 @@ pub fn measure(rt: &HostRuntime) -> Result<()> {
         measure_flood(rt, "refused", Flood::Refused, Flood::Refused, waiting)?;
         measure_flood(rt, "faults", Flood::Faults, Flood::Faults, waiting)?;
         measure_flood(rt, "resets", Flood::Resets, Flood::Pings, waiting)?;
+        measure_questions(rt, waiting)?;
     }
     Ok(())
 }
