@@ -26,8 +26,8 @@ calls         messages of 20 bytes and then of 64 KiB are read, in feeds of 1, 1
 huffman       1 MiB of text is spelled as a Huffman string and read back, a byte of text
 hpack         header blocks of twelve fields are written and read, a block
 sessions      a server's session is fed frames of 1, 64 and 256 live streams, a frame, and 64 MiB on one, a byte
-floods        PING, SETTINGS, refused HEADERS, stream errors and resets come behind 1,000 and 7,000 waiting frames, each,
-              and so are questions about one stream
+floods        PING, SETTINGS, refused HEADERS, stream errors and resets come behind 1,000 and 7,000 waiting frames,
+              each, and so do questions about one stream
 ";
 
 fn main(rt: HostRuntime) -> Result<()> {

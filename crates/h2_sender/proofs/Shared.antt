@@ -121,28 +121,6 @@ own a n k e = search (rules, e)
 pub own_bytes : (w : Waiting) → bytes_for (stream_of w.frame) w ≡ bytes_left w
 own_bytes w = own (stream_of w.frame) (stream_of w.frame) (bytes_left w) refl
 
-pub first_frames : (whole : Bool) (less : ℕ) (first next : Waiting) (rest : List Waiting) (shares : List Share) → GivesFirst whole less first next → AreShared (first ∷ rest) shares
-    → gone_whole whole next ≤ frames_of (stream_of next.frame) shares
-first_frames whole less first next rest shares g s =
-    let old : frames_of (stream_of next.frame) shares ≡ sum_by (counted_for (stream_of next.frame)) (first ∷ rest) = s.frames (stream_of next.frame) in
-    let cons = sum_by-cons (counted_for (stream_of next.frame)) first rest in
-    let here : counted_for (stream_of next.frame) first ≡ counted first = own (stream_of first.frame) (stream_of next.frame) (counted first) (ap stream_of (sym g.frame)) in
-    let same : counted next ≡ counted first = ap (λ f. cond (is_window f) 0 1) g.frame in
-    by whole (omega arith)
-  where
-    by : (c : Bool) → counted next ≤ frames_of (stream_of next.frame) shares → cond c (counted next) 0 ≤ frames_of (stream_of next.frame) shares
-    by true l = l
-    by false l = omega arith
-
-pub first_bytes : (whole : Bool) (less : ℕ) (first next : Waiting) (rest : List Waiting) (shares : List Share) → GivesFirst whole less first next → AreShared (first ∷ rest) shares
-    → less ≤ bytes_of (stream_of next.frame) shares
-first_bytes whole less first next rest shares g s =
-    let old : bytes_of (stream_of next.frame) shares ≡ sum_by (bytes_for (stream_of next.frame)) (first ∷ rest) = s.bytes (stream_of next.frame) in
-    let cons = sum_by-cons (bytes_for (stream_of next.frame)) first rest in
-    let here : bytes_for (stream_of next.frame) first ≡ bytes_left first = own (stream_of first.frame) (stream_of next.frame) (bytes_left first) (ap stream_of (sym g.frame)) in
-    let gone = g.bytes in
-    omega arith
-
 -- with a stream's last frame its last bytes go
 pub first_last : (whole : Bool) (less : ℕ) (first next : Waiting) (rest : List Waiting) (shares : List Share) → GivesFirst whole less first next → AreShared (first ∷ rest) shares
     → frames_of (stream_of next.frame) shares ≡ gone_whole whole next → bytes_of (stream_of next.frame) shares ≡ less

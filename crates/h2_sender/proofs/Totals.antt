@@ -3,7 +3,7 @@ use Rattle.std.proofs.Common.{arith, rules, ◌≡◌, ◌≤◌, ◌<◌, ◌+�
 use Rattle.std.specs.List.{filter, All}
 use Rattle.std.proofs.lemmas.List.Filters.{sum_by-filter_both}
 use Rattle.std.proofs.lemmas.List.Elements.{All-cons, All-head, All-tail, All-filter, All-nil, All-append}
-use Rattle.std.proofs.lemmas.List.Sums.{sum_by-cons, sum_by-le-sum_by, sum_by_push, sum_by-insert}
+use Rattle.std.proofs.lemmas.List.Sums.{sum_by-cons, sum_by_push, sum_by-insert}
 use Rattle.h2_frames.specs.declared.frame.Frame.{Frame}
 use Rattle.h2_frames.specs.declared.frame.Frame.TheVariants as frame
 use Rattle.h2_model.specs.Queue.{Waiting, placed, all_placed, is_free, is_free_of, with_place, with_end_placed, entered, fresh, is_reset_frame, data_in, bytes_of, queued, control_bytes, is_data}
@@ -132,10 +132,6 @@ data_of_one id (frame.Data n bytes last size) = by_test ((id == 0) || (n == id))
   by_test true = omega arith
   by_test false = omega arith
 data_of_one id f = search rules
-
-pub queued_of_one : (id : ℕ) (queue : List Waiting) → queued id queue ≤ queued 0 queue
-queued_of_one id queue =
-    sum_by-le-sum_by (λ (w : Waiting). data_in id w.frame) (λ (w : Waiting). data_in 0 w.frame) queue (λ w. data_of_one id w.frame)
 
 -- only some frames stay, and no DATA goes that is no free one
 control_kept : (p : Waiting → Bool) → ((w : Waiting) → is_free w ≡ false → p w ≡ true) → (queue : List Waiting) → control_bytes (filter p queue) ≡ control_bytes queue

@@ -54,7 +54,8 @@ impl Model for FrameQueue {
 
     ghost view = { λ q. record { frames = q.frames.items; room = q.most - deque_len q.frames } };
 
-    ghost invariant = { λ q. IsCounted q.frames.items q.«data» q.control q.front × AreShared q.frames.items q.shares.items
+    ghost invariant = { λ q. IsCounted q.frames.items q.«data» q.control q.front
+        × AreShared q.frames.items q.shares.items
         × IsReserved q.most (deque_len q.frames) (deque_capacity q.frames) (deque_capacity q.shares) };
 }
 

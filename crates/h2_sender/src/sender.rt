@@ -180,8 +180,8 @@ impl Sender {
         self.held.as_slice().len()
     }
 
-    /// A connection error: content of which no byte was given is dropped, and so is what is held. GOAWAY goes last, behind
-    /// ends that wait.
+    /// A connection error: content of which no byte was given is dropped, and so is what is held. GOAWAY goes last,
+    /// behind ends that wait.
     pub fn fail(&mut self, goaway: Frame)
         requires goaway { IsGoaway goaway }
         requires room { 0 < self.old.room }
