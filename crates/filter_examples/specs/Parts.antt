@@ -8,7 +8,7 @@ use Rattle.ext_msgs.specs.declared.modes.PartModes.{PartModes}
 use Rattle.http_model.specs.Bytes.{field}
 use Rattle.http_model.specs.Wire.{write_rules}
 use Rattle.http_model.specs.declared.types.Direction.TheVariants.{Request}
-use Rattle.http_model.specs.declared.types.Length.TheVariants as length
+use Rattle.http_model.specs.declared.types.Length.TheVariants as of
 use Rattle.http_model.specs.declared.types.Framing.TheVariants as framing
 use Rattle.http_model.specs.declared.types.Out.TheVariants as part
 use Rattle.filter_model.specs.Half.{HalfStep, Told, Asked, Gave, Past, Head, Bytes, End, Answer, Sent, parts}
@@ -29,7 +29,7 @@ abbrev pub steps : List HalfStep
 steps =
     Gave part.Nothing ∷ Gave part.End ∷ Gave (part.Trailers trailers) ∷ Told (Answer (common change.Absent)) ∷ Told (End [] trailers)
     ∷ Gave (part.Data (codes "xyz")) ∷ Told (Answer (common (change.Bytes (codes "xyz")))) ∷ Told (Answer (common (change.Clear true))) ∷ Told Sent ∷ Asked
-    ∷ Told (Bytes (codes "abcdef")) ∷ Gave (part.Head head framing.Chunked) ∷ Told (Head head length.Chunked) ∷ []
+    ∷ Told (Bytes (codes "abcdef")) ∷ Gave (part.Head head framing.Chunked) ∷ Told (Head head of.Chunked) ∷ []
 
 abbrev pub streaming : Past
 streaming = record { config = small; direction = Request; modes = streamed; steps = steps }
