@@ -23,4 +23,3 @@ pub use entry::Entry;
 pub use laws::{own_calls_stand_in_order, value_stands_for_front};
 pub use table::{Attempt, TurnSeat, TurnTable};
 pub use turned::Turned;
-pub use view::{Counted, SeatNumber, SeatView, Stage};
