@@ -34,6 +34,7 @@ pub enum JoinedFront<C, R> {
     Of(u64, LinkedList<Entry<C, R>>),
 }
 
+/// What a seat knows.
 pub struct SeatView<C, R> {
     pub number: SeatNumber,
     /// The history that it has seen.
