@@ -30,7 +30,7 @@ module _ {C R : Type 0} where
   abbrev pub IsJoined : List (SeatView C R) → ℕ → Type 0
   IsJoined views place = (v : SeatView C R) × (get_elem? views place ≡ some v) × (v.number ≡ Joined)
 
-  -- a seat's view, of so many
+  -- what the view of the seat at this place shows, where there are so many seats
   pub record FitsView (history : List (Entry C R)) (turn holder count place : ℕ) (v : SeatView C R) : Type 0 where
     pub front : IsPrefix v.front history
     pub noted : v.noted ≤ length history

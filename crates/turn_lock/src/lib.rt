@@ -8,8 +8,8 @@
 //! ```
 //!
 //! A thread calls with a seat ([`TurnSeat`]), which knows a beginning of the history, its front. [`TurnTable::split`]
-//! makes a seat for another thread, [`TurnTable::join`] makes one of two. What is proved of the calls of a
-//! [`Turned`] value, one after the other, so holds of what any seat has seen.
+//! makes a seat for another thread, [`TurnTable::join`] makes one of two. What is proved of a [`Turned`] value whose
+//! calls are made one after the other holds of what any seat has seen.
 #![tactic(auto)]
 
 mod entry;
