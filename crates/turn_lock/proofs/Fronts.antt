@@ -17,16 +17,6 @@ module _ {A : Type 0} where
   pub prefix_length : (xs ys : List A) → IsPrefix xs ys → length xs ≤ length ys
   prefix_length xs ys p = omega (arith, sym (ap length p.1) ∙ length-append xs p.0)
 
-  -- of two beginnings of one list the shorter begins the longer
-  prefix_shorter : (xs ys zs : List A) → IsPrefix xs zs → IsPrefix ys zs → length xs ≤ length ys → IsPrefix xs ys
-  prefix_shorter [] ys zs p q le = (ys, refl)
-  prefix_shorter (x ∷ xs) [] zs p q le = absurd (omega arith)
-  prefix_shorter (x ∷ xs) (y ∷ ys) [] p q le = absurd (cc (p.1))
-  prefix_shorter (x ∷ xs) (y ∷ ys) (z ∷ zs) p q le =
-      let heads : x ≡ y = cc (p.1, q.1) in
-      let rest = prefix_shorter xs ys zs (p.0, cc (p.1)) (q.0, cc (q.1)) (omega arith) in
-      (rest.0, cc (heads, rest.1))
-
   pub all_left : (P : A → Type 0) (xs ys : List A) → All P (xs ++ ys) → All P xs
   all_left P [] ys h = All-nil P
   all_left P (x ∷ xs) ys h = All-cons P x xs (All-head P x (xs ++ ys) h) (all_left P xs ys (All-tail P x (xs ++ ys) h))
@@ -55,8 +45,8 @@ module _ {C R : Type 0} where
       let r = between n a b history (g.0, cc (g.1), g.2) (p.0, cc (p.1)) (omega arith) in
       ((r.0.0, cc (heads, r.0.1), r.0.2), (r.1.0, cc (other, r.1.1), r.1.2))
 
-  pub longer : (n : ℕ) (a b history : List (Entry C R)) → GoesOnWithout n a history → IsPrefix b history → (c : List (Entry C R)) × IsLonger n a b c × GoesOnWithout n c history
-  longer n a b history g p = elim (dec_le (length a) (length b)) as (λ _. (c : List (Entry C R)) × IsLonger n a b c × GoesOnWithout n c history) [
-    | yes le ↦ let r = between n a b history g p le in (b, record { either = inr refl; goes_on = r.0; begins = prefix_self b }, r.1)
-    | no more ↦ (a, record { either = inl refl; goes_on = goes_self n a; begins = prefix_shorter b a history p (g.0, g.1) (omega arith) }, g)
+  pub longer : (n m : ℕ) (a b history : List (Entry C R)) → GoesOnWithout n a history → GoesOnWithout m b history → (c : List (Entry C R)) × IsLonger n m a b c × GoesOnWithout n c history
+  longer n m a b history g h = elim (dec_le (length a) (length b)) as (λ _. (c : List (Entry C R)) × IsLonger n m a b c × GoesOnWithout n c history) [
+    | yes le ↦ let r = between n a b history g (h.0, h.1) le in (b, record { either = inr refl; first_goes_on = r.0; second_goes_on = goes_self m b }, r.1)
+    | no more ↦ let r = between m b a history h (g.0, g.1) (omega arith) in (a, record { either = inl refl; first_goes_on = goes_self n a; second_goes_on = r.0 }, g)
   ]

@@ -4,5 +4,6 @@ pub mod Rule
 pub mod Loads
 pub mod Turns
 pub mod Counting
+pub mod Attempts
 pub mod Seats
 pub mod Own

@@ -4,6 +4,7 @@ use mathlib.Core.Option.{none}
 use Rattle.atomic_table.specs.Table.{Me, step, keeps, Allows}
 use Rattle.turn_lock.specs.declared.view.SeatNumber.TheVariants.{SplitFrom, Known}
 use Rattle.turn_lock.specs.declared.entry.Entry.{Entry}
+use Rattle.turn_lock.specs.declared.view.JoinedFront.TheVariants.{Of}
 use Rattle.turn_lock.specs.declared.view.SeatView.{SeatView}
 use Rattle.turn_lock.specs.declared.view.Counted.{Counted}
 use Rattle.turn_lock.specs.History.{IsOfOther, IsLonger}
@@ -19,7 +20,7 @@ module _ {T C R : Type 0} (stands : T → List (Entry C R) → Type 0) (slots id
     w,
     keeps,
     tt,
-    loads stands s r 1 id me w at record { front = f.front; joined = f.joined; noted = omega arith; alone = f.alone; number = f.number; stage = f.stage } refl,
+    loads stands s r 1 id me w at record { front = f.front; noted = omega arith; alone = f.alone; number = f.number; stage = f.stage } refl (λ h. h) (λ m k e. r.joined id m v k at e),
     (refl, refl, let h = f.noted in omega arith, let h = prefix_length v.front r.history f.front in omega arith),
   )
 
@@ -31,24 +32,29 @@ module _ {T C R : Type 0} (stands : T → List (Entry C R) → Type 0) (slots id
         w,
         keeps,
         tt,
-        loads stands s r 1 id me w at record { front = f.front; joined = f.joined; noted = f.noted; alone = f.alone; number = (refl, (f.front.0, f.front.1, others)); stage = f.stage } refl,
+        loads stands s r 1 id me w at record { front = f.front; noted = f.noted; alone = f.alone; number = (refl, (f.front.0, f.front.1, others)); stage = f.stage } refl (λ h. absurd (cc (is, h))) (λ m k e. r.joined id m v k at e),
         (refl, λ n e. (id, refl, (let same : from ≡ n = ap number_in (sym is ∙ e) in let h = split.0 in omega arith), split.1)),
       )
 
-  pub compares_fronts : (n : ℕ) → me.0.number ≡ Known n → Allows (OneHistory stands) slots id me 1 (λ n. n) (fronts_compared stands (step slots 1 0 0 none) me)
-  compares_fronts n is s r _ at _ = let v = me.0 in let f = r.each id v at in
+  pub compares_fronts : (n other : ℕ) (front : List (Entry C R)) → me.0.number ≡ Known n → me.0.joined ≡ Of other front → Allows (OneHistory stands) slots id me 1 (λ n. n) (fronts_compared stands (step slots 1 0 0 none) me)
+  compares_fronts n other front is brought s r _ at _ = let v = me.0 in let f = r.each id v at in
       let number = subst (FitsNumber r.history v.front id) is f.number in
-      let l = longer id v.front v.joined r.history number.1 f.joined in let w : SeatView C R = with_front l.0 v in (
+      let l = longer id other v.front front r.history number.1 (r.joined id other v front at brought).0 in let w : SeatView C R = with_front l.0 v in (
         w,
         keeps,
         tt,
         loads stands s r 1 id me w at record {
           front = (l.2.0, l.2.1);
-          joined = (r.history, refl);
           noted = f.noted;
           alone = f.alone;
           number = subst (FitsNumber r.history l.0 id) (sym is) (number.0, l.2);
           stage = f.stage;
-        } refl,
-        (refl, λ m e. (l.0, refl, subst (λ k. IsLonger k v.front v.joined l.0) (sym number.0 ∙ ap number_in (sym is ∙ e)) l.1)),
+        } refl (λ h. h) (λ m k e. absurd (cc (e))),
+        (
+          refl,
+          λ m other' front' e brought'.
+              let b : Of other front ≡ Of other' front' = sym brought ∙ brought' in
+              let b1 : other ≡ other' = cc b in let b2 : front ≡ front' = cc b in
+              (l.0, refl, subst (λ k. IsLonger k other' v.front front' l.0) (sym number.0 ∙ ap number_in (sym is ∙ e)) (subst (λ k. IsLonger id k v.front front' l.0) b1 (subst (λ k. IsLonger id other v.front k l.0) b2 l.1))),
+        ),
       )

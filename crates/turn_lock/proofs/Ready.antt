@@ -37,6 +37,6 @@ keeps_ready m m' p i e h = (subst IsKnown (sym p) h.0, (subst IsIdle (sym i) h.1
 pub keeps_stood : {T C R : Type 0} (stands : T → List (Entry C R) → Type 0) (f f' : List (Entry C R)) → f' ≡ f → ∥ ((v : T) × stands v f) ∥₁ → ∥ ((v : T) × stands v f') ∥₁
 keeps_stood {T = T} {C = C} {R = R} stands f f' e h = subst (λ (l : List (Entry C R)). ∥ ((v : T) × stands v l) ∥₁) (sym e) h
 
-pub stood_longer : {T C R : Type 0} (stands : T → List (Entry C R) → Type 0) (n : ℕ) (a b c : List (Entry C R)) → IsLonger n a b c → ∥ ((v : T) × stands v a) ∥₁ → ∥ ((v : T) × stands v b) ∥₁ → ∥ ((v : T) × stands v c) ∥₁
-stood_longer {T = T} {C = C} {R = R} stands n a b c l h k = let P : List (Entry C R) → Type 0 = λ x. ∥ ((v : T) × stands v x) ∥₁ in
+pub stood_longer : {T C R : Type 0} (stands : T → List (Entry C R) → Type 0) (n m : ℕ) (a b c : List (Entry C R)) → IsLonger n m a b c → ∥ ((v : T) × stands v a) ∥₁ → ∥ ((v : T) × stands v b) ∥₁ → ∥ ((v : T) × stands v c) ∥₁
+stood_longer {T = T} {C = C} {R = R} stands n m a b c l h k = let P : List (Entry C R) → Type 0 = λ x. ∥ ((v : T) × stands v x) ∥₁ in
     ⊎_elim (λ (e : c ≡ a). subst P (sym e) h) (λ (e : c ≡ b). subst P (sym e) k) l.either

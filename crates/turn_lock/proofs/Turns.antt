@@ -14,7 +14,7 @@ use Rattle.turn_lock.specs.History.{GoesOnWithout}
 use Rattle.turn_lock.specs.Views.{with_turn, without_turn, found_taken}
 use Rattle.turn_lock.specs.Rule.{FitsNumber, FitsStage, FitsView, OneHistory}
 use Rattle.turn_lock.specs.Steps.{HasTaken, turn_taken, turn_freed, spent_turn_freed}
-use Rattle.turn_lock.proofs.Rule.{below, each_set, other_fits, loads, turn_is}
+use Rattle.turn_lock.proofs.Rule.{below, each_set, other_fits, knows_joined, loads, turn_is}
 
 module _ {T C R : Type 0} (stands : T → List (Entry C R) → Type 0) where
   abbrev V : Type 0
@@ -40,15 +40,15 @@ module _ {T C R : Type 0} (stands : T → List (Entry C R) → Type 0) where
         made = subst (λ n. All (λ (e : Entry C R). e.seat < n) r.history) (sym long) r.made;
         each = subst (λ n. (j : ℕ) (x : V) → get_elem? (set s.views id w) j ≡ some x → FitsView r.history 1 id n j x) (sym long)
             (each_set (FitsView r.history 1 id (length s.views)) s.views id w
-            record { front = f.front; joined = f.joined; noted = f.noted; alone = f.alone; number = f.number; stage = (refl, refl, refl) }
+            record { front = f.front; noted = f.noted; alone = f.alone; number = f.number; stage = (refl, refl, refl) }
             (λ j x _ e. let g = r.each j x e in record {
               front = g.front;
-              joined = g.joined;
               noted = g.noted;
               alone = g.alone;
               number = g.number;
               stage = other_fits r.history r.history r.turn r.holder 1 id j x.stage (λ one. absurd (omega arith)) g.stage;
             }));
+        joined = knows_joined r.history s.views id v w at (λ h. h) (λ m k e. r.joined id m v k at e) r.joined;
         free = λ z. absurd (omega arith);
         taken = λ _. (refl, (w, set_here s.views id w (below s.views id v at), refl));
       }
@@ -89,7 +89,7 @@ module _ {T C R : Type 0} (stands : T → List (Entry C R) → Type 0) where
         w,
         keeps,
         tt,
-        loads stands s r 0 id me w at record { front = f.front; joined = f.joined; noted = f.noted; alone = f.alone; number = f.number; stage = f.stage } refl,
+        loads stands s r 0 id me w at record { front = f.front; noted = f.noted; alone = f.alone; number = f.number; stage = f.stage } refl (λ h. h) (λ m k e. r.joined id m v k at e),
         (
           λ hit. absurd (miss hit),
           λ _. record { view = refl; slot = refl; split = not_alone s r id v at idle (λ z. miss (is ∙ z)) },
@@ -115,15 +115,15 @@ module _ {T C R : Type 0} (stands : T → List (Entry C R) → Type 0) where
         made = subst (λ n. All (λ (e : Entry C R). e.seat < n) r.history) (sym long) r.made;
         each = subst (λ n. (j : ℕ) (x : V) → get_elem? (set s.views id w) j ≡ some x → FitsView r.history 0 id n j x) (sym long)
             (each_set (FitsView r.history 0 id (length s.views)) s.views id w
-            record { front = f.front; joined = f.joined; noted = subst (λ (l : List (Entry C R)). n ≤ length l) all noted; alone = f.alone; number = f.number; stage = tt }
+            record { front = f.front; noted = subst (λ (l : List (Entry C R)). n ≤ length l) all noted; alone = f.alone; number = f.number; stage = tt }
             (λ j x other e. let g = r.each j x e in record {
               front = g.front;
-              joined = g.joined;
               noted = g.noted;
               alone = g.alone;
               number = g.number;
               stage = other_fits r.history r.history r.turn r.holder 0 id j x.stage (λ _ is. other (is ∙ sym stage.1)) g.stage;
             }));
+        joined = knows_joined r.history s.views id v w at (λ h. h) (λ m k e. r.joined id m v k at e) r.joined;
         free = λ _. (k, one_slot k s.homes one, subst (stands k.value) all value, calls ∙ ap length all);
         taken = λ ne. absurd (ne refl);
       }

@@ -1,6 +1,5 @@
 -- The history of a table, oldest entry first, and beginnings of it.
 use Rattle.std.specs.Prelude.{◌≡◌, ◌≢◌, ℕ, ◌<◌, List, ◌++◌, ◌==◌, All, filter, ◌⊎◌}
-use mathlib.Core.List.{IsPrefix}
 use Rattle.turn_lock.specs.declared.entry.Entry.{Entry}
 
 module _ {C R : Type 0} where
@@ -17,11 +16,11 @@ module _ {C R : Type 0} where
   abbrev pub GoesOnWithout : ℕ → List (Entry C R) → List (Entry C R) → Type 0
   GoesOnWithout seat before after = (rest : List (Entry C R)) × (before ++ rest ≡ after) × All (IsOfOther seat) rest
 
-  -- The longer of two fronts, which the other begins. It has no entries of the seat but those of the first.
-  pub record IsLonger (seat : ℕ) (first second longer : List (Entry C R)) : Type 0 where
+  -- The longer of two fronts, which the other begins: behind either seat's front it has no entry of that seat.
+  pub record IsLonger (seat other : ℕ) (first second longer : List (Entry C R)) : Type 0 where
     pub either : (longer ≡ first) ⊎ (longer ≡ second)
-    pub goes_on : GoesOnWithout seat first longer
-    pub begins : IsPrefix second longer
+    pub first_goes_on : GoesOnWithout seat first longer
+    pub second_goes_on : GoesOnWithout other second longer
 
   abbrev pub own_entries : ℕ → List (Entry C R) → List (Entry C R)
   own_entries seat history = filter (λ e. e.seat == seat) history

@@ -9,6 +9,7 @@ use Rattle.turn_lock.specs.declared.view.SeatNumber.{SeatNumber}
 use Rattle.turn_lock.specs.declared.view.SeatNumber.TheVariants.{SplitFrom, Known, Joined}
 use Rattle.turn_lock.specs.declared.view.Stage.{Stage}
 use Rattle.turn_lock.specs.declared.view.Stage.TheVariants.{Idle, HasTurn}
+use Rattle.turn_lock.specs.declared.view.JoinedFront.TheVariants.{Of}
 use Rattle.turn_lock.specs.declared.view.SeatView.{SeatView}
 use Rattle.turn_lock.specs.declared.view.Counted.{Counted}
 use Rattle.turn_lock.specs.History.{IsEarlier, IsOfOther, GoesOnWithout}
@@ -25,10 +26,13 @@ module _ {C R : Type 0} where
   FitsStage history turn holder place Idle = Unit {0}
   FitsStage history turn holder place (HasTurn known) = (turn ≡ 1) × (place ≡ holder) × (known ≡ history)
 
-  -- a seat's view, of so many
+  -- the seat at this place was joined into another
+  abbrev pub IsJoined : List (SeatView C R) → ℕ → Type 0
+  IsJoined views place = (v : SeatView C R) × (get_elem? views place ≡ some v) × (v.number ≡ Joined)
+
+  -- what the view of the seat at this place shows, where there are so many seats
   pub record FitsView (history : List (Entry C R)) (turn holder count place : ℕ) (v : SeatView C R) : Type 0 where
     pub front : IsPrefix v.front history
-    pub joined : IsPrefix v.joined history
     pub noted : v.noted ≤ length history
     pub alone : v.splits ≡ 0 → count ≡ 1
     pub number : FitsNumber history v.front place v.number
@@ -48,5 +52,7 @@ module _ {T C R : Type 0} (stands : T → List (Entry C R) → Type 0) where
     pub words : s.words ≡ turn ∷ length history ∷ []
     pub made : All (λ e. e.seat < length s.views) history
     pub each : (place : ℕ) (v : SeatView C R) → get_elem? s.views place ≡ some v → FitsView history turn holder (length s.views) place v
+    -- no entry comes of a seat that was joined into another
+    pub joined : (place other : ℕ) (v : SeatView C R) (front : List (Entry C R)) → get_elem? s.views place ≡ some v → v.joined ≡ Of other front → GoesOnWithout other front history × IsJoined s.views other
     pub free : turn ≡ 0 → HasValue s history
     pub taken : turn ≢ 0 → (turn ≡ 1) × ((v : SeatView C R) × (get_elem? s.views holder ≡ some v) × (v.stage ≡ HasTurn history))

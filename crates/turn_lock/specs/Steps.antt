@@ -4,6 +4,7 @@ use Rattle.atomic_table.specs.Table.{Me, Step}
 use Rattle.turn_lock.specs.declared.entry.Entry.{Entry}
 use Rattle.turn_lock.specs.declared.view.SeatNumber.TheVariants.{SplitFrom, Known}
 use Rattle.turn_lock.specs.declared.view.Stage.TheVariants.{HasTurn}
+use Rattle.turn_lock.specs.declared.view.JoinedFront.TheVariants.{Of}
 use Rattle.turn_lock.specs.declared.view.SeatView.{SeatView}
 use Rattle.turn_lock.specs.declared.view.Counted.{Counted}
 use Rattle.turn_lock.specs.History.{entry, IsEarlier, GoesOnWithout, IsLonger}
@@ -56,7 +57,8 @@ module _ {T C R : Type 0} (stands : T → List (Entry C R) → Type 0) where
 
   abbrev pub fronts_compared : Step Slot → Seat → ℕ → Seat → Type 0
   fronts_compared st m n m' = (m'.1 ≡ m.1)
-      × ((seat : ℕ) → m.0.number ≡ Known seat → (longer : List (Entry C R)) × (m'.0 ≡ with_front longer m.0) × IsLonger seat m.0.front m.0.joined longer)
+      × ((seat other : ℕ) (front : List (Entry C R)) → m.0.number ≡ Known seat → m.0.joined ≡ Of other front
+      → (longer : List (Entry C R)) × (m'.0 ≡ with_front longer m.0) × IsLonger seat other m.0.front front longer)
 
   abbrev pub length_noted : Step Slot → Seat → ℕ → Seat → Type 0
   length_noted st m n m' = (m'.1 ≡ m.1) × (m'.0 ≡ with_noted n m.0) × (m.0.noted ≤ n) × (length m.0.front ≤ n)

@@ -8,6 +8,8 @@ use Rattle.turn_lock.specs.declared.view.SeatNumber.{SeatNumber}
 use Rattle.turn_lock.specs.declared.view.SeatNumber.TheVariants.{SplitFrom, Known, Joined}
 use Rattle.turn_lock.specs.declared.view.Stage.{Stage}
 use Rattle.turn_lock.specs.declared.view.Stage.TheVariants.{Idle, HasTurn}
+use Rattle.turn_lock.specs.declared.view.JoinedFront.{JoinedFront}
+use Rattle.turn_lock.specs.declared.view.JoinedFront.TheVariants.{Compared, Of}
 use Rattle.turn_lock.specs.declared.view.SeatView.{SeatView}
 
 -- (one that isn't known yet is that of the seat that was split)
@@ -17,14 +19,14 @@ number_in (Known n) = n
 number_in Joined = 0
 
 module _ {C R : Type 0} where
-  abbrev pub view : SeatNumber → List (Entry C R) → List (Entry C R) → ℕ → ℕ → ℕ → Stage C R → SeatView C R
+  abbrev pub view : SeatNumber → List (Entry C R) → JoinedFront C R → ℕ → ℕ → ℕ → Stage C R → SeatView C R
   view n f j k b s st = record { number = n; front = f; joined = j; noted = k; busy = b; splits = s; stage = st }
 
   abbrev pub first_view : SeatView C R
-  first_view = view (Known 0) [] [] 0 0 0 Idle
+  first_view = view (Known 0) [] Compared 0 0 0 Idle
 
   abbrev pub spent_view : SeatView C R
-  spent_view = view Joined [] [] 0 0 1 Idle
+  spent_view = view Joined [] Compared 0 0 1 Idle
 
   abbrev pub with_turn : List (Entry C R) → SeatView C R → SeatView C R
   with_turn history v = view v.number v.front v.joined v.noted v.busy v.splits (HasTurn history)
@@ -43,16 +45,16 @@ module _ {C R : Type 0} where
   after_split v = view v.number v.front v.joined v.noted v.busy (v.splits + 1) v.stage
 
   abbrev pub split_off : SeatView C R → SeatView C R
-  split_off v = view (SplitFrom (number_in v.number)) v.front [] v.noted 0 1 Idle
+  split_off v = view (SplitFrom (number_in v.number)) v.front Compared v.noted 0 1 Idle
 
   abbrev pub with_number : SeatNumber → SeatView C R → SeatView C R
   with_number n v = view n v.front v.joined v.noted v.busy v.splits v.stage
 
   abbrev pub joined_view : SeatView C R → SeatView C R → SeatView C R
-  joined_view v w = view v.number v.front w.front (max v.noted w.noted) v.busy v.splits v.stage
+  joined_view v w = view v.number v.front (Of (number_in w.number) w.front) (max v.noted w.noted) v.busy v.splits v.stage
 
   abbrev pub with_front : List (Entry C R) → SeatView C R → SeatView C R
-  with_front f v = view v.number f [] v.noted v.busy v.splits v.stage
+  with_front f v = view v.number f Compared v.noted v.busy v.splits v.stage
 
   abbrev pub with_noted : ℕ → SeatView C R → SeatView C R
   with_noted noted v = view v.number v.front v.joined noted v.busy v.splits v.stage

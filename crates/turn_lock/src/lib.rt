@@ -8,8 +8,8 @@
 //! ```
 //!
 //! A thread calls with a seat ([`TurnSeat`]), which knows a beginning of the history, its front. [`TurnTable::split`]
-//! makes a seat for another thread, [`TurnTable::join`] makes one of two. What is proved of the calls of a
-//! [`Turned`] value, one after the other, so holds of what any seat has seen.
+//! makes a seat for another thread, [`TurnTable::join`] makes one of two. What is proved of a [`Turned`] value whose
+//! calls are made one after the other holds of what any seat has seen.
 #![tactic(auto)]
 
 mod entry;
@@ -23,4 +23,3 @@ pub use entry::Entry;
 pub use laws::{own_calls_stand_in_order, value_stands_for_front};
 pub use table::{Attempt, TurnSeat, TurnTable};
 pub use turned::Turned;
-pub use view::{Counted, SeatNumber, SeatView, Stage};

@@ -5,6 +5,7 @@ use crate::view::{Counted, SeatView};
 use atomic_table::{Join, Play, Split, TableRule};
 use std::marker::{Brand, PhantomData};
 
+/// What holds between any two steps.
 pub struct TurnRule<T> {
     of: PhantomData<T>,
 }
@@ -18,6 +19,7 @@ impl<T: Turned> TableRule<Option<Counted<T>>, SeatView<T::Call, T::Reply>, ()> f
     ghost first = { λ _. first_view };
 }
 
+/// The turn word becomes 1 where it was 0, and the value leaves its slot; or it was 1.
 pub struct TakeTurn<T> {
     of: PhantomData<T>,
 }
@@ -41,6 +43,7 @@ impl<X> Said<X> for Brand {
     ghost said = { None };
 }
 
+/// The count goes up by one: the history has one entry more, of this call and this reply.
 pub struct AddEntry<T, C, R> {
     of: PhantomData<(T, C, R)>,
 }
@@ -54,6 +57,7 @@ impl<T: Turned, C: Said<T::Call>, R: Said<T::Reply>> Play<
     ghost then = { entry_added T.stands C.said R.said };
 }
 
+/// The value is back in its slot, and the turn word becomes 0.
 pub struct FreeTurn<T> {
     of: PhantomData<T>,
 }
@@ -64,6 +68,7 @@ impl<T: Turned> Play<Option<Counted<T>>, SeatView<T::Call, T::Reply>> for FreeTu
     ghost then = { turn_freed T.stands };
 }
 
+/// The same where no call more can be counted, which the seat notes.
 pub struct FreeSpentTurn<T> {
     of: PhantomData<T>,
 }
@@ -74,6 +79,7 @@ impl<T: Turned> Play<Option<Counted<T>>, SeatView<T::Call, T::Reply>> for FreeSp
     ghost then = { spent_turn_freed T.stands };
 }
 
+/// A new seat has a copy of a seat's view.
 pub struct SplitView<T> {
     of: PhantomData<T>,
 }
@@ -86,6 +92,7 @@ impl<T: Turned> Split<SeatView<T::Call, T::Reply>> for SplitView<T> {
     ghost right = { split_off };
 }
 
+/// A load of the count, by which a new seat learns its number.
 pub struct LearnNumber<T> {
     of: PhantomData<T>,
 }
@@ -96,6 +103,7 @@ impl<T: Turned> Play<Option<Counted<T>>, SeatView<T::Call, T::Reply>> for LearnN
     ghost then = { number_learned T.stands };
 }
 
+/// A seat takes in another's view, and the other is spent.
 pub struct JoinViews<T> {
     of: PhantomData<T>,
 }
@@ -108,6 +116,7 @@ impl<T: Turned> Join<SeatView<T::Call, T::Reply>> for JoinViews<T> {
     ghost spent = { spent_view };
 }
 
+/// A load of the count, by which a seat learns which front is the longer: its own, or the one that it took in.
 pub struct CompareFronts<T> {
     of: PhantomData<T>,
 }
@@ -118,6 +127,7 @@ impl<T: Turned> Play<Option<Counted<T>>, SeatView<T::Call, T::Reply>> for Compar
     ghost then = { fronts_compared T.stands };
 }
 
+/// A load of the count, which the seat notes.
 pub struct NoteLength<T> {
     of: PhantomData<T>,
 }

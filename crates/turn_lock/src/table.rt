@@ -40,7 +40,7 @@ pub enum Attempt<T: Turned> {
     Done(T::Reply),
     /// Another seat had the turn.
     Busy(T::Call),
-    /// 2^64 - 1 calls were made before.
+    /// 2^64 - 1 calls were counted before.
     Spent(T::Call),
 }
 
@@ -165,7 +165,8 @@ impl<T: Turned> TurnTable<T> {
         requires other { IsSeatOf self.now other }
         ensures seat { IsSeatOf self.now seat.new × IsSameSeat seat.old seat.new
             × (busy_of seat.new ≡ busy_of seat.old) }
-        ensures front { IsLonger (number_of seat.old) (front_of seat.old) (front_of other) (front_of seat.new) }
+        ensures front { IsLonger (number_of seat.old) (number_of other) (front_of seat.old) (front_of other)
+            (front_of seat.new) }
         ensures noted { noted_of seat.new ≡ max (noted_of seat.old) (noted_of other) }
     {
         let shared = &self.table.shared;

@@ -26,12 +26,20 @@ pub enum Stage<C, R> {
     HasTurn(LinkedList<Entry<C, R>>),
 }
 
+/// What was brought in by a join.
+pub enum JoinedFront<C, R> {
+    /// Nothing that isn't compared yet.
+    Compared,
+    /// The number of the seat that was joined in, and its front.
+    Of(u64, LinkedList<Entry<C, R>>),
+}
+
+/// What a seat knows.
 pub struct SeatView<C, R> {
     pub number: SeatNumber,
     /// The history that it has seen.
     pub front: LinkedList<Entry<C, R>>,
-    /// The front of a seat that was joined into it, until the two are compared.
-    pub joined: LinkedList<Entry<C, R>>,
+    pub joined: JoinedFront<C, R>,
     /// The greatest length of the history that it noted.
     pub noted: u64,
     /// How many of its steps found the turn taken.

@@ -1,6 +1,5 @@
 //! Seats of two threads.
 
-ghost use Rattle.std.specs.Prelude.{Some};
 ghost use Rattle.turn_lock.specs.Seats.{IsSeatOf};
 
 use crate::sum::{Call, MOST_TURNS, Reply, Sum};
