@@ -5,6 +5,7 @@ pub mod Grown
 pub mod Sound
 pub mod Half
 pub mod HalfRight
+pub mod Told
 pub mod View
 pub mod Account
 pub mod Cut

@@ -1,22 +1,25 @@
 //! Laws of the definitions, as contracts of functions that do nothing.
 ghost use Rattle.ext_msgs.specs.Spelling.{ask};
+ghost use Rattle.ext_msgs.specs.declared.answer.Common.{Common};
 ghost use Rattle.filter_model.specs.Account.{ExchangeAccount, Live, course, is_finished};
-ghost use Rattle.filter_model.specs.Config.{FilterConfig};
-ghost use Rattle.filter_model.specs.Course.{Changed, changed};
-ghost use Rattle.filter_model.specs.Cut.{is_whole_and_done};
+ghost use Rattle.filter_model.specs.Config.{CourseConfig, FilterConfig};
+ghost use Rattle.filter_model.specs.Course.{Course, Changed, asked, body_room, changed, committed, is_over, queue};
+ghost use Rattle.filter_model.specs.Cut.{AnswerKind, is_whole_and_done};
 ghost use Rattle.filter_model.specs.Grown.{Grown};
-ghost use Rattle.filter_model.specs.Half.{Past, Taken, MayGive, NothingDue, becomes, parts, progress};
+ghost use Rattle.filter_model.specs.Half.{HalfCall, Past, Taken, MayGive, NothingDue, becomes, called, parts, progress, refusal};
 ghost use Rattle.filter_model.specs.HalfRight.{IsPast, written_parts};
 ghost use Rattle.filter_model.specs.Outgoing.{IsWire};
 ghost use Rattle.filter_model.specs.Right.{Call, Headline, IsHistory, account, ask_given, is_done};
 ghost use Rattle.filter_model.specs.Step.{is_live, step};
+ghost use Rattle.filter_model.specs.Told.{Comes, ReadWell, known, news, told};
 ghost use Rattle.filter_model.specs.View.{ViewEntry, Lost};
 ghost use Rattle.filter_model.specs.declared.calls.Loss.{Loss};
 ghost use Rattle.filter_model.specs.declared.calls.Side.{Side};
 ghost use Rattle.http_model.specs.Bytes.{IsPrefix};
+ghost use Rattle.http_model.specs.Reads.{Original, reads};
 ghost use Rattle.http_model.specs.declared.types.Direction.{Direction};
 ghost use Rattle.http_model.specs.declared.types.Out.{Out};
-ghost use Rattle.std.specs.Prelude.{List, map, reverse, filter_map, true, false, ◌∷◌, ◌≡◌, ◌≤◌, ◌+◌, ◌⊎◌, ℕ};
+ghost use Rattle.std.specs.Prelude.{Bool, List, map, reverse, filter_map, true, false, ◌∷◌, ◌≡◌, ◌≤◌, ◌+◌, ◌⊎◌, ℕ};
 
 /// In every history the asks that went out are the first of those made, in order.
 pub fn asks_in_order()
@@ -71,4 +74,27 @@ pub fn parts_are_the_first()
 pub fn done_stays()
     ensures { (c : FilterConfig) (call : Call) (h : List Call) → IsHistory c (call ∷ h) → (s : Side) →
         is_done c (account c h) s ≡ true → is_done c (account c (call ∷ h)) s ≡ true }
+{}
+
+/// No rule of a course reads what the reader alone knows: the course that a half has, without that, makes the same asks,
+/// chooses the same head and becomes the same message, and each call of a half leaves it out too.
+pub fn known_is_enough()
+    ensures committed { (c : CourseConfig) (d : Direction) (w : Course) →
+        committed c d (known w) ≡ known (committed c d w) }
+    ensures asked { (c : CourseConfig) (d : Direction) (w : Course) → asked c d (known w) ≡ known (asked c d w) }
+    ensures called { (call : HalfCall) (w : Course) → called call (known w) ≡ known (called call w) }
+    ensures changed { (c : CourseConfig) (d : Direction) (w : Course) → changed c d (known w) ≡ changed c d w }
+    ensures queue { (c : CourseConfig) (d : Direction) (w : Course) → queue c d (known w) ≡ queue c d w }
+    ensures room { (c : CourseConfig) (d : Direction) (w : Course) → body_room c d (known w) ≡ body_room c d w }
+    ensures over { (c : CourseConfig) (w : Course) → is_over c (known w) ≡ is_over c w }
+    ensures refusal { (c : CourseConfig) (d : Direction) (w : Course) (kind : AnswerKind) (a : Common) →
+        refusal c d (known w) kind a ≡ refusal c d w kind a }
+{}
+
+/// A half that is told in turn what its side brings comes to the course that the account makes of all of it at once.
+pub fn reading_told()
+    ensures told { (c : CourseConfig) (d : Direction) (w : Course) (now : Original) → Comes c d w now →
+        told c d (news c d (known w) now) (known w) ≡ known (asked c d (committed c d (record w { original = now }))) }
+    ensures well { (d : Direction) (to_head : Bool) (bytes : List ℕ) (ended : Bool) →
+        ReadWell (reads d to_head bytes ended) }
 {}
