@@ -25,3 +25,5 @@ pub mod Known
 pub mod ToldSame
 pub mod ToldHead
 pub mod ToldReading
+pub mod DataGiven
+pub mod PartsGiven

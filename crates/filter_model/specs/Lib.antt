@@ -6,6 +6,7 @@ pub mod Sound
 pub mod Half
 pub mod HalfRight
 pub mod Told
+pub mod Given
 pub mod View
 pub mod Account
 pub mod Cut

@@ -1,10 +1,11 @@
 //! Laws of the definitions, as contracts of functions that do nothing.
 ghost use Rattle.ext_msgs.specs.Spelling.{ask};
 ghost use Rattle.ext_msgs.specs.declared.answer.Common.{Common};
-ghost use Rattle.filter_model.specs.Account.{ExchangeAccount, Live, course, is_finished};
+ghost use Rattle.filter_model.specs.Account.{ExchangeAccount, Live, course, given_count, is_finished};
 ghost use Rattle.filter_model.specs.Config.{CourseConfig, FilterConfig};
 ghost use Rattle.filter_model.specs.Course.{Course, Changed, asked, body_room, changed, committed, is_over, queue};
 ghost use Rattle.filter_model.specs.Cut.{AnswerKind, is_whole_and_done};
+ghost use Rattle.filter_model.specs.Given.{data_in};
 ghost use Rattle.filter_model.specs.Grown.{Grown};
 ghost use Rattle.filter_model.specs.Half.{HalfCall, Past, Taken, MayGive, NothingDue, becomes, called, parts, progress, refusal};
 ghost use Rattle.filter_model.specs.HalfRight.{IsPast, written_parts};
@@ -19,7 +20,7 @@ ghost use Rattle.http_model.specs.Bytes.{IsPrefix};
 ghost use Rattle.http_model.specs.Reads.{Original, reads};
 ghost use Rattle.http_model.specs.declared.types.Direction.{Direction};
 ghost use Rattle.http_model.specs.declared.types.Out.{Out};
-ghost use Rattle.std.specs.Prelude.{Bool, List, map, reverse, filter_map, true, false, ◌∷◌, ◌≡◌, ◌≤◌, ◌+◌, ◌⊎◌, ℕ};
+ghost use Rattle.std.specs.Prelude.{Bool, List, map, reverse, filter_map, true, false, ◌∷◌, ◌++◌, ◌≡◌, ◌≤◌, ◌+◌, ◌-◌, ◌⊎◌, ℕ, length, take};
 
 /// In every history the asks that went out are the first of those made, in order.
 pub fn asks_in_order()
@@ -97,4 +98,12 @@ pub fn reading_told()
         told c d (news c d (known w) now) (known w) ≡ known (asked c d (committed c d (record w { original = now }))) }
     ensures well { (d : Direction) (to_head : Bool) (bytes : List ℕ) (ended : Bool) →
         ReadWell (reads d to_head bytes ended) }
+{}
+
+/// What a side was given, the first bytes of the front and of the parts that were handed out, has as many body bytes as
+/// these parts say. So a writer counts the bytes of each part that it gives, and reads nothing back.
+pub fn given_is_counted()
+    ensures { (p : Past) → IsPast p → (front : List ℕ) (n : ℕ) →
+        given_count p.direction (becomes p).head front (take n (front ++ written_parts p.direction (parts p.steps)))
+        ≡ data_in p.direction (parts p.steps) (n - length front) }
 {}
