@@ -1,14 +1,14 @@
 -- The first bytes of the written parts have as many body bytes as their parts say.
-use Rattle.std.proofs.Common.{inl, inr, sym, ◌∙◌, ap, subst, refl, arith, append-nil, append_assoc, length-append}
+use Rattle.std.proofs.Common.{sym, ◌∙◌, ap, refl, arith, append-nil, append_assoc, length-append}
 use Rattle.std.proofs.lemmas.List.{length-take}
-use Rattle.std.specs.Prelude.{ℕ, zero, suc, ◌≡◌, ◌⊎◌, ◌+◌, ◌-◌, ◌<◌, ◌≤◌, min, Bool, true, false, List, [], ◌∷◌, ◌++◌, length, take, drop, Option, Some, None, if◌then◌else◌}
+use Rattle.std.specs.Prelude.{ℕ, zero, suc, ◌≡◌, ◌+◌, ◌-◌, ◌≤◌, min, List, [], ◌∷◌, ◌++◌, length, take, drop, None}
 use Rattle.ext_msgs.specs.declared.lists.Field.{Field}
 use Rattle.http_model.specs.Bytes.{crlf}
-use Rattle.http_model.specs.Wire.{hex, chunk_bytes, last_bytes, head_bytes}
+use Rattle.http_model.specs.Wire.{hex, last_bytes, head_bytes}
 use Rattle.http_model.specs.declared.types.Direction.{Direction}
 use Rattle.http_model.specs.declared.types.Framing.{Framing}
 use Rattle.http_model.specs.declared.types.Framing.TheVariants.{NoField, Length, Chunked}
-use Rattle.filter_model.specs.Outgoing.{Framed, InSize, InData, AtEnd, Ended, behind_size, framed_on, is_data, data_count, carried, body_bytes, end_bytes}
+use Rattle.filter_model.specs.Outgoing.{Framed, InSize, InData, AtEnd, behind_size, framed_on, is_data, data_count, carried, body_bytes, end_bytes}
 use Rattle.http_model.specs.declared.types.Out.{Out}
 use Rattle.http_model.specs.declared.types.Out.TheVariants as part
 use Rattle.filter_model.specs.Course.{Outgoing}

@@ -172,7 +172,7 @@ pub record Gone (d : Direction) (m : Changed) (t : Taken) (outs : List Out) : Ty
 abbrev pub IsGone : Direction → Changed → Taken → List Out → Type 0
 IsGone d m t outs = (Untouched t outs × (written_parts d outs ≡ [])) ⊎ Gone d m t outs
 
-body_length : (m : Changed) (t : Taken) (s : Shown m t) → length (body_of m) ≡ t.body + (length (joined s.left) + length s.rest)
+pub body_length : (m : Changed) (t : Taken) (s : Shown m t) → length (body_of m) ≡ t.body + (length (joined s.left) + length s.rest)
 body_length m t s =
     let a : length (body_of m) ≡ length (joined m.pieces) + length m.passing = length-append (joined m.pieces) m.passing in
     let b : length (joined m.pieces) ≡ length (joined s.gone) + length (joined s.left) =

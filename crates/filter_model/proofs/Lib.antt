@@ -27,3 +27,4 @@ pub mod ToldHead
 pub mod ToldReading
 pub mod DataGiven
 pub mod PartsGiven
+pub mod HandedFits

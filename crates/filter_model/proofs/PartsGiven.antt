@@ -1,7 +1,7 @@
 -- Along a past, what was given of the parts that were handed out is counted by the parts.
 use Rattle.std.proofs.Common.{inl, inr, sym, ◌∙◌, ap, subst, refl, arith, append-nil, append_assoc, length-append}
 use Rattle.std.proofs.lemmas.List.{drop-drop}
-use Rattle.std.specs.Prelude.{ℕ, ◌≡◌, ◌⊎◌, ◌+◌, ◌-◌, ◌<◌, ◌≤◌, Bool, true, false, List, [], ◌∷◌, ◌++◌, length, take, drop, Option, Some, None, if◌then◌else◌}
+use Rattle.std.specs.Prelude.{ℕ, ◌≡◌, ◌+◌, ◌-◌, ◌<◌, Bool, true, false, List, [], ◌∷◌, ◌++◌, length, take, drop, Option, Some, None, if◌then◌else◌}
 use Rattle.ext_msgs.specs.declared.lists.Field.{Field}
 use Rattle.ext_msgs.specs.declared.modes.PartModes.{PartModes}
 use Rattle.http_model.specs.Wire.{head_bytes}
@@ -11,15 +11,15 @@ use Rattle.http_model.specs.declared.types.Framing.TheVariants.{NoField, Length,
 use Rattle.http_model.specs.declared.types.Out.{Out}
 use Rattle.http_model.specs.declared.types.Out.TheVariants as part
 use Rattle.filter_model.specs.Config.{CourseConfig}
-use Rattle.filter_model.specs.Course.{Course, Changed, Outgoing, changed, body_of}
+use Rattle.filter_model.specs.Course.{Changed, Outgoing, changed, body_of}
 use Rattle.filter_model.specs.Account.{given_count}
 use Rattle.filter_model.specs.Outgoing.{carried, body_bytes, end_bytes, passing_limit}
-use Rattle.filter_model.specs.Grown.{Grown, GoesOn}
-use Rattle.filter_model.specs.Half.{HalfStep, Told, Asked, Gave, Past, Progress, Taken, MayGive, becomes, parts, progress, progress_of, trailers_left, half_rules}
+use Rattle.filter_model.specs.Grown.{Grown}
+use Rattle.filter_model.specs.Half.{HalfStep, Told, Asked, Gave, Past, Progress, Taken, MayGive, becomes, parts, progress, progress_of, half_rules}
 use Rattle.filter_model.specs.HalfRight.{AreSteps, IsPast, framing_in, has_trailers, part_behind, part_bytes, written_parts}
 use Rattle.filter_model.specs.Given.{data_of, data_at, data_in}
 use Rattle.filter_model.proofs.HalfGrows.{told_goes}
-use Rattle.filter_model.proofs.HalfWritten.{Untouched, IsDone, Gone, IsGone, PieceNext, PassNext, next_is, some_left, not_true, left_of, along}
+use Rattle.filter_model.proofs.HalfWritten.{Untouched, IsDone, Gone, IsGone, next_is, some_left, not_true, left_of, along}
 use Rattle.filter_model.proofs.DataGiven.{Counted, nothing_written, take_none, behind_first, data_split, end_split, none_in, with_none}
 
 clash : true ≡ false → ⊥

@@ -1,10 +1,8 @@
 -- The entry that brings a head: its half is told the head and the bytes behind it in turn, the account all at once.
-use Rattle.std.proofs.Common.{inl, inr, sym, ◌∙◌, ap, refl, arith, lt-ltb, le-ltb, le-leb, ltb-false, ltb-true, take-append-drop}
+use Rattle.std.proofs.Common.{sym, ◌∙◌, ap, refl, arith, lt-ltb, le-ltb, le-leb, ltb-false, ltb-true, take-append-drop}
 use Rattle.std.proofs.lemmas.List.{take-take, length-take-le}
-use Rattle.std.specs.Prelude.{ℕ, ◌≡◌, ◌+◌, ◌-◌, ◌<◌, ◌≤◌, min, Bool, true, false, not, ◌&&◌, ◌||◌, List, [], ◌∷◌, ◌++◌, length, take, drop, Option, Some, None, if◌then◌else◌, option_to_list, nat_lt, nat_le}
-use Rattle.std.specs.List.{list_any}
+use Rattle.std.specs.Prelude.{ℕ, ◌≡◌, ◌+◌, ◌-◌, ◌<◌, ◌≤◌, min, Bool, true, false, not, ◌&&◌, List, [], ◌∷◌, ◌++◌, length, take, drop, Option, Some, None, if◌then◌else◌, option_to_list, nat_lt, nat_le}
 use Rattle.ext_msgs.specs.declared.lists.Field.{Field}
-use Rattle.ext_msgs.specs.declared.answer.Common.{Common}
 use Rattle.ext_msgs.specs.declared.modes.BodyMode.{BodyMode}
 use Rattle.ext_msgs.specs.declared.modes.BodyMode.TheVariants.{NoAsk, Streamed, Buffered, Partial}
 use Rattle.http_model.specs.Bytes.{is_empty}
@@ -12,10 +10,10 @@ use Rattle.http_model.specs.Heads.{is_bodiless}
 use Rattle.http_model.specs.Reads.{Original, unread}
 use Rattle.http_model.specs.declared.types.Direction.{Direction}
 use Rattle.filter_model.specs.Config.{CourseConfig}
-use Rattle.filter_model.specs.Course.{Course, AskedPart, Headers, Body, Outgoing, outgoing, committed, next, next_body, body_at, next_trailers, or_else, due, queue, is_permitted, one_asked, asked, is_bare, replacement_by, changed, changed_at, body_of, ask_limit, body_room, is_over}
+use Rattle.filter_model.specs.Course.{Course, AskedPart, Body, Outgoing, outgoing, committed, next, next_body, body_at, next_trailers, or_else, queue, is_permitted, one_asked, asked, is_bare, replacement_by, changed, changed_at, body_of, ask_limit, body_room, is_over}
 use Rattle.filter_model.specs.Half.{HalfCall, Head, Bytes, End, called}
 use Rattle.filter_model.specs.Told.{told, more, more_calls, body_calls, head_of}
-use Rattle.filter_model.proofs.ToldSame.{Start, begun, Begins, begins, by_head, first_room, asked_again, asked_none, none_due, none_of_trailers, or_none, and_true, outgoing_same}
+use Rattle.filter_model.proofs.ToldSame.{Start, begun, begins, by_head, first_room, asked_again, asked_none, none_due, none_of_trailers, or_none, and_true, outgoing_same}
 
 -- The first bytes of a longer body, in one ask
 

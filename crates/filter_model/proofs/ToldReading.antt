@@ -1,25 +1,25 @@
 -- What is read of a message, told to its half, makes of the half's course what it makes of the account's.
-use Rattle.std.proofs.Common.{inl, inr, sym, ◌∙◌, ap, subst, refl, arith, append-nil, eqb-true, le-leb}
+use Rattle.std.proofs.Common.{inl, inr, sym, ◌∙◌, ap, refl, arith, append-nil, eqb-true, le-leb}
 use Rattle.std.proofs.lemmas.List.{drop_at}
-use Rattle.std.specs.Prelude.{ℕ, ◌≡◌, ◌⊎◌, ◌≤◌, Bool, true, false, not, ◌&&◌, List, [], ◌∷◌, ◌++◌, length, drop, Option, Some, None, if◌then◌else◌, nat_le, ◌==◌}
+use Rattle.std.specs.Prelude.{ℕ, ◌≡◌, ◌≤◌, Bool, true, false, not, ◌&&◌, List, [], ◌∷◌, ◌++◌, length, drop, Option, Some, None, if◌then◌else◌}
 use Rattle.ext_msgs.specs.declared.lists.Field.{Field}
 use Rattle.ext_msgs.specs.declared.answer.Common.{Common}
 use Rattle.http_model.specs.Bytes.{IsPrefix, is_empty}
 use Rattle.http_model.specs.Reading.{Reading, Whole, Partial, Bad, Fault}
 use Rattle.http_model.specs.Heads.{Head, message_head, is_bodiless}
-use Rattle.http_model.specs.Bodies.{Body, body}
-use Rattle.http_model.specs.Reads.{Original, unread, reads, read_by, with_body}
+use Rattle.http_model.specs.Bodies.{body}
+use Rattle.http_model.specs.Reads.{Original, unread, reads, read_by}
 use Rattle.http_model.specs.Reader.{Extends, Longer}
 use Rattle.http_model.specs.declared.types.Direction.{Direction}
 use Rattle.http_model.specs.declared.types.Length.{Length}
 use Rattle.http_model.specs.declared.types.Length.TheVariants.{NoBody, Known, Chunked, Close}
 use Rattle.http_model.proofs.BodiesGrow.{body_grows, no_body}
 use Rattle.filter_model.specs.Config.{CourseConfig}
-use Rattle.filter_model.specs.Course.{Course, AskedPart, Outgoing, committed, asked, due, head_may_go, is_over}
+use Rattle.filter_model.specs.Course.{Course, AskedPart, committed, asked, is_over}
 use Rattle.filter_model.specs.Half.{HalfCall, Bytes, End, called}
 use Rattle.filter_model.specs.Sound.{Sound}
 use Rattle.filter_model.specs.Told.{ReadWell, Comes, known, told, more, more_calls, news, news_at}
-use Rattle.filter_model.proofs.Known.{committed_known, asked_known, due_known, over_known}
+use Rattle.filter_model.proofs.Known.{committed_known, asked_known, due_known}
 use Rattle.filter_model.proofs.ToldSame.{Start, begun, rests}
 use Rattle.filter_model.proofs.ToldHead.{unbegun, head_told}
 

@@ -1,6 +1,6 @@
 -- What a half is told of what its side brings makes of its course what the entry makes of the exchange's.
-use Rattle.std.proofs.Common.{inl, inr, sym, ◌∙◌, ap, subst, refl, arith, append-nil, le-ltb, lt-ltb, le-leb}
-use Rattle.std.specs.Prelude.{ℕ, ◌≡◌, ◌+◌, ◌-◌, ◌<◌, ◌≤◌, min, Bool, true, false, not, ◌&&◌, ◌||◌, List, [], ◌∷◌, ◌++◌, length, take, drop, Option, Some, None, if◌then◌else◌, is_some, is_none, option_map, option_to_list, nat_lt, nat_le, flat_map}
+use Rattle.std.proofs.Common.{sym, ◌∙◌, ap, refl, arith, append-nil, le-ltb, lt-ltb, le-leb}
+use Rattle.std.specs.Prelude.{ℕ, ◌≡◌, ◌+◌, ◌-◌, ◌≤◌, min, Bool, true, false, not, ◌&&◌, ◌||◌, List, [], ◌∷◌, ◌++◌, length, take, Option, Some, None, if◌then◌else◌, is_some, is_none, option_map, option_to_list, nat_lt, nat_le, flat_map}
 use Rattle.std.specs.List.{list_any}
 use Rattle.ext_msgs.specs.declared.lists.Field.{Field}
 use Rattle.ext_msgs.specs.declared.modes.BodyMode.{BodyMode}
@@ -8,12 +8,11 @@ use Rattle.ext_msgs.specs.declared.modes.BodyMode.TheVariants.{NoAsk, Streamed, 
 use Rattle.ext_msgs.specs.declared.modes.PartModes.{PartModes}
 use Rattle.http_model.specs.Bytes.{is_empty}
 use Rattle.http_model.specs.Heads.{is_bodiless}
-use Rattle.http_model.specs.Reads.{Original}
 use Rattle.http_model.specs.declared.types.Direction.{Direction}
 use Rattle.http_model.specs.declared.types.Length.{Length}
 use Rattle.http_model.specs.declared.types.Framing.TheVariants.{Length as OfLength}
 use Rattle.filter_model.specs.Config.{CourseConfig}
-use Rattle.filter_model.specs.Course.{Course, AskedPart, Headers, Body, Trailers, Outgoing, outgoing, framing_of, head_may_go, committed, next, next_at, next_body, body_at, next_trailers, due, queue, is_permitted, one_asked, asked, is_buffered, is_trailers, is_headers, is_no_ask, is_bare, is_partial, body_room, unasked, or_else, mode, changed, changed_head, framing_at, framing_by, replacement, answered_pieces, ask_limit}
+use Rattle.filter_model.specs.Course.{Course, AskedPart, Headers, Body, Trailers, Outgoing, outgoing, head_may_go, committed, next, next_body, body_at, next_trailers, due, queue, is_permitted, one_asked, asked, is_buffered, is_trailers, is_no_ask, is_bare, is_partial, body_room, unasked, or_else, mode, changed, changed_head, framing_at, framing_by, replacement, answered_pieces, ask_limit}
 use Rattle.filter_model.proofs.Firm.{asked_all}
 
 -- Moves that change nothing

@@ -13,3 +13,4 @@ pub mod Cut
 pub mod Answers
 pub mod Step
 pub mod Right
+pub mod Held

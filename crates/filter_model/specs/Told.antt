@@ -1,5 +1,5 @@
 -- What the half of a direction is told of what its side brings, and how its course stands to that of the exchange.
-use Rattle.std.specs.Prelude.{ℕ, ◌≡◌, ◌≤◌, Bool, true, false, not, ◌&&◌, List, [], ◌∷◌, ◌++◌, length, take, drop, map, Option, Some, None, if◌then◌else◌, nat_lt}
+use Rattle.std.specs.Prelude.{ℕ, ◌≡◌, ◌≤◌, true, false, not, ◌&&◌, List, [], ◌∷◌, length, take, drop, map, Option, Some, None, if◌then◌else◌, nat_lt}
 use Rattle.ext_msgs.specs.declared.lists.Field.{Field}
 use Rattle.ext_msgs.specs.declared.ask.Ask.{Ask}
 use Rattle.http_model.specs.Bytes.{is_empty}
@@ -10,7 +10,7 @@ use Rattle.http_model.specs.Reader.{Extends}
 use Rattle.http_model.specs.declared.types.Direction.{Direction}
 use Rattle.filter_model.specs.Config.{CourseConfig}
 use Rattle.filter_model.specs.Answers.{ask_of}
-use Rattle.filter_model.specs.Course.{Course, AskedPart, committed, asked, body_room, due, head_may_go, is_over}
+use Rattle.filter_model.specs.Course.{Course, committed, asked, body_room, due, head_may_go, is_over}
 use Rattle.filter_model.specs.Sound.{Sound}
 use Rattle.filter_model.specs.Half.{HalfCall, Head, Bytes, End, called}
 

@@ -3,11 +3,11 @@ ghost use Rattle.ext_msgs.specs.Spelling.{ask};
 ghost use Rattle.ext_msgs.specs.declared.answer.Common.{Common};
 ghost use Rattle.filter_model.specs.Account.{ExchangeAccount, Live, course, given_count, is_finished};
 ghost use Rattle.filter_model.specs.Config.{CourseConfig, FilterConfig};
-ghost use Rattle.filter_model.specs.Course.{Course, Changed, asked, body_room, changed, committed, is_over, queue};
+ghost use Rattle.filter_model.specs.Course.{Course, Changed, asked, body_of, body_room, changed, committed, is_over, queue};
 ghost use Rattle.filter_model.specs.Cut.{AnswerKind, is_whole_and_done};
 ghost use Rattle.filter_model.specs.Given.{data_in};
 ghost use Rattle.filter_model.specs.Grown.{Grown};
-ghost use Rattle.filter_model.specs.Half.{HalfCall, Past, Taken, MayGive, NothingDue, becomes, called, parts, progress, refusal};
+ghost use Rattle.filter_model.specs.Half.{HalfCall, Past, Taken, MayGive, NothingDue, becomes, called, course as past_course, parts, progress, refusal};
 ghost use Rattle.filter_model.specs.HalfRight.{IsPast, written_parts};
 ghost use Rattle.filter_model.specs.Outgoing.{IsWire};
 ghost use Rattle.filter_model.specs.Right.{Call, Headline, IsHistory, account, ask_given, is_done};
@@ -20,7 +20,7 @@ ghost use Rattle.http_model.specs.Bytes.{IsPrefix};
 ghost use Rattle.http_model.specs.Reads.{Original, reads};
 ghost use Rattle.http_model.specs.declared.types.Direction.{Direction};
 ghost use Rattle.http_model.specs.declared.types.Out.{Out};
-ghost use Rattle.std.specs.Prelude.{Bool, List, map, reverse, filter_map, true, false, ◌∷◌, ◌++◌, ◌≡◌, ◌≤◌, ◌+◌, ◌-◌, ◌⊎◌, ℕ, length, take};
+ghost use Rattle.std.specs.Prelude.{Bool, List, map, reverse, filter_map, true, false, ◌∷◌, ◌++◌, ◌≡◌, ◌≤◌, ◌+◌, ◌-◌, ◌⊎◌, ℕ, drop, length, take};
 
 /// In every history the asks that went out are the first of those made, in order.
 pub fn asks_in_order()
@@ -106,4 +106,14 @@ pub fn given_is_counted()
     ensures { (p : Past) → IsPast p → (front : List ℕ) (n : ℕ) →
         given_count p.direction (becomes p).head front (take n (front ++ written_parts p.direction (parts p.steps)))
         ≡ data_in p.direction (parts p.steps) (n - length front) }
+{}
+
+/// In a past of one direction no more of the body was given than handed out, and no more handed out than there is. So the
+/// bytes that wait are those that were handed out and not given, and those that weren't handed out.
+pub fn what_waits()
+    ensures given { (p : Past) → IsPast p → (past_course p).given ≤ (progress p).taken.body }
+    ensures handed { (p : Past) → IsPast p → (progress p).taken.body ≤ length (body_of (becomes p)) }
+    ensures waits { (p : Past) → IsPast p → queue p.config p.direction (past_course p)
+        ≡ ((progress p).taken.body - (past_course p).given)
+        + length (drop (progress p).taken.body (body_of (becomes p))) }
 {}
