@@ -28,3 +28,4 @@ pub mod ToldReading
 pub mod DataGiven
 pub mod PartsGiven
 pub mod HandedFits
+pub mod ToldEntry

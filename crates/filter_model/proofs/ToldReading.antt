@@ -57,7 +57,7 @@ drop_all : (l : List ℕ) → drop (length l) l ≡ []
 drop_all [] = refl
 drop_all (x ∷ l) = drop_all l
 
-no_news : (c : CourseConfig) (d : Direction) (w : Course) → news c d (known w) w.original ≡ []
+pub no_news : (c : CourseConfig) (d : Direction) (w : Course) → news c d (known w) w.original ≡ []
 no_news c d w = by w.original.head
   where
     by : (o : Option (List Field)) → news_at c d (known w) w.original o o ≡ []

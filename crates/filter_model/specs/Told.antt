@@ -8,7 +8,11 @@ use Rattle.http_model.specs.Reading.{Fault}
 use Rattle.http_model.specs.Reads.{Original, unread}
 use Rattle.http_model.specs.Reader.{Extends}
 use Rattle.http_model.specs.declared.types.Direction.{Direction}
-use Rattle.filter_model.specs.Config.{CourseConfig}
+use Rattle.filter_model.specs.Config.{CourseConfig, FilterConfig}
+use Rattle.filter_model.specs.Account.{ExchangeAccount, gathered}
+use Rattle.filter_model.specs.Step.{is_live, is_departure, cut}
+use Rattle.filter_model.specs.View.{ViewEntry}
+use Rattle.filter_model.specs.View as view
 use Rattle.filter_model.specs.Answers.{ask_of}
 use Rattle.filter_model.specs.Course.{Course, committed, asked, body_room, due, head_may_go, is_over}
 use Rattle.filter_model.specs.Sound.{Sound}
@@ -77,3 +81,22 @@ pub record Comes (c : CourseConfig) (d : Direction) (w : Course) (now : Original
   pub within : w.original.head ≡ None → is_over c (record w { original = now }) ≡ false
   -- the mark leaves room for a piece
   pub sizes : c.piece ≤ c.mark
+
+-- An entry of the two sides, or of time
+
+abbrev pub IsOfSides : ViewEntry → Type 0
+IsOfSides (view.Bytes s bytes) = Unit {0}
+IsOfSides (view.End s) = Unit {0}
+IsOfSides (view.Lost s how) = Unit {0}
+IsOfSides (view.Tick n) = Unit {0}
+IsOfSides _ = ⊥
+
+-- it comes to a live exchange, isn't the client's leaving, and is no cut
+pub record IsNoCut (c : FilterConfig) (e : ViewEntry) (a : ExchangeAccount) : Type 0 where
+  pub live : is_live a.fate ≡ true
+  pub stays : is_departure e (gathered e a) ≡ false
+  pub none : cut c e (gathered e a) ≡ None
+
+-- the head's entry brings at most one piece of the body
+abbrev pub IsShort : FilterConfig → Course → Course → Type 0
+IsShort c w now = w.original.head ≡ None → length now.original.body ≤ c.course.piece

@@ -1,7 +1,7 @@
 //! Laws of the definitions, as contracts of functions that do nothing.
 ghost use Rattle.ext_msgs.specs.Spelling.{ask};
 ghost use Rattle.ext_msgs.specs.declared.answer.Common.{Common};
-ghost use Rattle.filter_model.specs.Account.{ExchangeAccount, Live, course, given_count, is_finished};
+ghost use Rattle.filter_model.specs.Account.{ExchangeAccount, Live, course, gathered, given_count, is_finished};
 ghost use Rattle.filter_model.specs.Config.{CourseConfig, FilterConfig};
 ghost use Rattle.filter_model.specs.Course.{Course, Changed, asked, body_of, body_room, changed, committed, is_over, queue};
 ghost use Rattle.filter_model.specs.Cut.{AnswerKind, is_whole_and_done};
@@ -10,17 +10,18 @@ ghost use Rattle.filter_model.specs.Grown.{Grown};
 ghost use Rattle.filter_model.specs.Half.{HalfCall, Past, Taken, MayGive, NothingDue, becomes, called, course as past_course, parts, progress, refusal};
 ghost use Rattle.filter_model.specs.HalfRight.{IsPast, written_parts};
 ghost use Rattle.filter_model.specs.Outgoing.{IsWire};
-ghost use Rattle.filter_model.specs.Right.{Call, Headline, IsHistory, account, ask_given, is_done};
+ghost use Rattle.filter_model.specs.Right.{Call, Stepped, Headline, IsHistory, account, ask_given, is_done};
 ghost use Rattle.filter_model.specs.Step.{is_live, step};
-ghost use Rattle.filter_model.specs.Told.{Comes, ReadWell, known, news, told};
+ghost use Rattle.filter_model.specs.Told.{Comes, IsNoCut, IsOfSides, IsShort, ReadWell, asks_behind, known, news, told};
 ghost use Rattle.filter_model.specs.View.{ViewEntry, Lost};
 ghost use Rattle.filter_model.specs.declared.calls.Loss.{Loss};
 ghost use Rattle.filter_model.specs.declared.calls.Side.{Side};
 ghost use Rattle.http_model.specs.Bytes.{IsPrefix};
 ghost use Rattle.http_model.specs.Reads.{Original, reads};
 ghost use Rattle.http_model.specs.declared.types.Direction.{Direction};
+ghost use Rattle.http_model.specs.declared.types.Direction.TheVariants.{Request, Response};
 ghost use Rattle.http_model.specs.declared.types.Out.{Out};
-ghost use Rattle.std.specs.Prelude.{Bool, List, map, reverse, filter_map, true, false, ◌∷◌, ◌++◌, ◌≡◌, ◌≤◌, ◌+◌, ◌-◌, ◌⊎◌, ℕ, drop, length, take};
+ghost use Rattle.std.specs.Prelude.{Bool, List, [], map, reverse, filter_map, true, false, ◌∷◌, ◌++◌, ◌≡◌, ◌≤◌, ◌+◌, ◌-◌, ◌⊎◌, ℕ, drop, length, take};
 
 /// In every history the asks that went out are the first of those made, in order.
 pub fn asks_in_order()
@@ -116,4 +117,20 @@ pub fn what_waits()
     ensures waits { (p : Past) → IsPast p → queue p.config p.direction (past_course p)
         ≡ ((progress p).taken.body - (past_course p).given)
         + length (drop (progress p).taken.body (body_of (becomes p))) }
+{}
+
+/// One entry of the two sides that is no cut: the half of each direction is told what its reader makes of it, which is
+/// nothing in the other direction, and has then the account's course. The asks that the halves make meanwhile are those
+/// of the account, the request's first.
+pub fn entry_told()
+    ensures told { (c : FilterConfig) (h : List Call) (e : ViewEntry) → IsHistory c (Stepped e ∷ h) → IsOfSides e
+        → IsNoCut c e (account c h) → c.course.piece ≤ c.course.mark → (d : Direction)
+        → IsShort c (course d (account c h)) (course d (gathered e (account c h)))
+        → known (course d (account c (Stepped e ∷ h)))
+        ≡ told c.course d (news c.course d (known (course d (account c h)))
+        (course d (gathered e (account c h))).original) (known (course d (account c h))) }
+    ensures made { (c : FilterConfig) (e : ViewEntry) (a : ExchangeAccount) → IsOfSides e → IsNoCut c e a
+        → (step c e a).made ≡ (a.made ++ asks_behind Request a.request.course (step c e a).request.course)
+        ++ asks_behind Response a.response.course (step c e a).response.course }
+    ensures none { (c : CourseConfig) (d : Direction) (w : Course) → news c d (known w) w.original ≡ [] }
 {}
