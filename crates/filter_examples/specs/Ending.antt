@@ -146,10 +146,40 @@ invalid_immediate_response_is_500 : to_client (config NoAsk)
 unfolding digits rules read_rules write_rules mutation_rules
 invalid_immediate_response_is_500 = refl
 
-immediate_response_to_head_has_no_body : to_client (config NoAsk) (Bytes Client (codes "HEAD / HTTP/1.1\r\nHost: a\r\n\r\n") ∷ forbids ∷ [])
-    ≡ codes "HTTP/1.1 403 Forbidden\r\ncontent-length: 2\r\nconnection: close\r\n\r\n"
+-- a request of HEAD gets the length of the body and not the body: RFC 9110 section 9.3.2
+abbrev head_of_a : ViewEntry
+head_of_a = Bytes Client (codes "HEAD / HTTP/1.1\r\nHost: a\r\n\r\n")
+
+abbrev forbidden_head : List ℕ
+forbidden_head = codes "HTTP/1.1 403 Forbidden\r\ncontent-length: 2\r\nconnection: close\r\n\r\n"
+
+immediate_response_to_head_has_no_body : to_client (config NoAsk) (head_of_a ∷ forbids ∷ []) ≡ forbidden_head
 unfolding digits rules read_rules write_rules mutation_rules
 immediate_response_to_head_has_no_body = refl
+
+-- its head is all of it: once that was given the client is done
+immediate_response_to_head_ends_behind_its_head : is_done (config NoAsk) (after (config NoAsk) (reverse (head_of_a ∷ forbids ∷ Given Client forbidden_head ∷ []))) Client ≡ true
+unfolding digits rules read_rules write_rules mutation_rules
+immediate_response_to_head_ends_behind_its_head = refl
+
+-- 204 and 304 have neither length nor body, whatever the immediate response brings: RFC 9110 sections 15.3.5 and 15.4.5
+abbrev replies_with : ℕ → ViewEntry
+replies_with code = answer (member.Immediate (record { code = code; headers = unchanged; body = codes "no" }))
+
+abbrev no_content : List ℕ
+no_content = codes "HTTP/1.1 204 No Content\r\nconnection: close\r\n\r\n"
+
+immediate_204_has_no_body : to_client (config NoAsk) (get_a ∷ replies_with 204 ∷ []) ≡ no_content
+unfolding digits rules read_rules write_rules mutation_rules
+immediate_204_has_no_body = refl
+
+immediate_304_has_no_body : to_client (config NoAsk) (get_a ∷ replies_with 304 ∷ []) ≡ codes "HTTP/1.1 304 Not Modified\r\nconnection: close\r\n\r\n"
+unfolding digits rules read_rules write_rules mutation_rules
+immediate_304_has_no_body = refl
+
+immediate_204_to_head_has_no_length : to_client (config NoAsk) (head_of_a ∷ replies_with 204 ∷ []) ≡ no_content
+unfolding digits rules read_rules write_rules mutation_rules
+immediate_204_to_head_has_no_length = refl
 
 -- Timers
 

@@ -52,7 +52,7 @@ digit_framed n d =
     by false false e f = refl
 
 -- a walk over the bytes that sees nothing but where it stands, in a chunk's first line
-abbrev Walks : {A : Type 0} → (Framed → List ℕ → A) → Type 0
+abbrev pub Walks : {A : Type 0} → (Framed → List ℕ → A) → Type 0
 Walks F = (n b : ℕ) (bytes : List ℕ) → F (InSize n) (b ∷ bytes) ≡ F (framed_on (InSize n) b) bytes
 
 digits_walked : {A : Type 0} (F : Framed → List ℕ → A) → Walks F → (k n : ℕ) (digits : List ℕ) → n < k → F (InSize 0) (hex_onto k n digits) ≡ F (InSize n) digits
@@ -90,7 +90,7 @@ onto-append (suc k) n digits more = by (n / 16 == 0) (onto-append k (n / 16) (he
     by false i = i
 
 -- a chunk's first line
-size_walked : {A : Type 0} (F : Framed → List ℕ → A) → Walks F → (n : ℕ) (more : List ℕ) → F (InSize 0) (hex n ++ (crlf ++ more)) ≡ F (behind_size n) more
+pub size_walked : {A : Type 0} (F : Framed → List ℕ → A) → Walks F → (n : ℕ) (more : List ℕ) → F (InSize 0) (hex n ++ (crlf ++ more)) ≡ F (behind_size n) more
 unfolding hex
 size_walked F w n more =
     ap (F (InSize 0)) (onto-append (suc n) n [] (crlf ++ more)) ∙ digits_walked F w (suc n) n (crlf ++ more) (omega arith)
@@ -101,7 +101,7 @@ size_walked F w n more =
 plus_none : (n : ℕ) → 0 + n ≡ n
 plus_none n = omega arith
 
-count_walks : Walks data_count
+pub count_walks : Walks data_count
 count_walks n b bytes = plus_none (data_count (framed_on (InSize n) b) bytes)
 
 data_counted : (b : ℕ) (piece more : List ℕ) → data_count (InData (length piece)) (b ∷ (piece ++ more)) ≡ suc (length piece) + data_count AtEnd more
@@ -114,7 +114,7 @@ data_counted b (c ∷ piece) more = ap (λ n. 1 + n) (data_counted c piece more)
 end_counted : (more : List ℕ) → data_count AtEnd (crlf ++ more) ≡ data_count (InSize 0) more
 end_counted more = plus_none (0 + data_count (InSize 0) more) ∙ plus_none (data_count (InSize 0) more)
 
-chunk_parts : (piece more : List ℕ) → chunk_bytes piece ++ more ≡ hex (length piece) ++ (crlf ++ (piece ++ (crlf ++ more)))
+pub chunk_parts : (piece more : List ℕ) → chunk_bytes piece ++ more ≡ hex (length piece) ++ (crlf ++ (piece ++ (crlf ++ more)))
 unfolding chunk_bytes
 chunk_parts piece more =
     append_assoc ((hex (length piece) ++ crlf) ++ piece) crlf more
@@ -142,7 +142,7 @@ body_counted ((b ∷ piece) ∷ pieces) more =
     plus : (n m k : ℕ) → n + (m + k) ≡ (n + m) + k
     plus n m k = omega arith
 
-none_counted : (bytes : List ℕ) → data_count Ended bytes ≡ 0
+pub none_counted : (bytes : List ℕ) → data_count Ended bytes ≡ 0
 none_counted [] = refl
 none_counted (b ∷ bytes) = plus_none (data_count Ended bytes) ∙ none_counted bytes
 

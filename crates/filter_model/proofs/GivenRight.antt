@@ -267,16 +267,16 @@ on_replied c e a l r f =
 -- the interim response stays, once the request's head is read
 
 -- before, nothing is owed
-abbrev IsSilent : Original → Type 0
+abbrev pub IsSilent : Original → Type 0
 IsSilent o = o.head ≡ None → interim o.expects ≡ []
 
-silent : (a : ExchangeAccount) → Read a → IsSilent a.request.course.original
+pub silent : (a : ExchangeAccount) → Read a → IsSilent a.request.course.original
 unfolding interim
 silent a r n =
     ap interim (ap (λ o. o.expects) r.request
     ∙ (reads_is_reader.headed Request (is_to_head a) a.request.brought a.request.ended (ap (λ o. o.head) (sym r.request) ∙ n)).1)
 
-front_read : (c : FilterConfig) (a : ExchangeAccount) (o : Original) → Held c a → Extends a.request.course.original o → IsSilent a.request.course.original
+pub front_read : (c : FilterConfig) (a : ExchangeAccount) (o : Original) → Held c a → Extends a.request.course.original o → IsSilent a.request.course.original
     → (interim o.expects ≡ interim a.request.course.original.expects)
     ⊎ ((changed c.course Response (course Response a)).head ≡ None × interim a.request.course.original.expects ≡ [])
 front_read c a o h (inl e) n = inl (ap (λ x. interim x.expects) e)

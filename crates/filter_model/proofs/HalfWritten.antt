@@ -32,20 +32,20 @@ joined ps = flat_map (λ p. p) ps
 -- The next bytes of a body
 
 -- a piece, behind empty ones
-record PieceNext (left : List (List ℕ)) (b : List ℕ) : Type 0 where
-  front : List (List ℕ)
-  back : List (List ℕ)
-  whole : left ≡ front ++ b ∷ back
-  empty : joined front ≡ []
-  some : 0 < length b
+pub record PieceNext (left : List (List ℕ)) (b : List ℕ) : Type 0 where
+  pub front : List (List ℕ)
+  pub back : List (List ℕ)
+  pub whole : left ≡ front ++ b ∷ back
+  pub empty : joined front ≡ []
+  pub some : 0 < length b
 
 -- bytes that pass, where no piece has any
-record PassNext (left : List (List ℕ)) (rest : List ℕ) (most : ℕ) (b : List ℕ) : Type 0 where
-  empty : joined left ≡ []
-  some : 0 < length b
-  few : length b ≤ most
-  more : List ℕ
-  whole : rest ≡ b ++ more
+pub record PassNext (left : List (List ℕ)) (rest : List ℕ) (most : ℕ) (b : List ℕ) : Type 0 where
+  pub empty : joined left ≡ []
+  pub some : 0 < length b
+  pub few : length b ≤ most
+  pub more : List ℕ
+  pub whole : rest ≡ b ++ more
 
 below : (n m : ℕ) → nat_lt n m ≡ true → n < m
 below n m e = search rules
@@ -131,48 +131,48 @@ without f xs es ys e =
 
 -- What was handed out
 
-record Untouched (t : Taken) (outs : List Out) : Type 0 where
-  head : t.head ≡ false
-  body : t.body ≡ 0
-  trailers : t.trailers ≡ false
-  ended : t.ended ≡ false
-  shown : has_trailers outs ≡ false
-  framing : framing_in outs ≡ None
+pub record Untouched (t : Taken) (outs : List Out) : Type 0 where
+  pub head : t.head ≡ false
+  pub body : t.body ≡ 0
+  pub trailers : t.trailers ≡ false
+  pub ended : t.ended ≡ false
+  pub shown : has_trailers outs ≡ false
+  pub framing : framing_in outs ≡ None
 
-record IsDone (m : Changed) (t : Taken) (f : Framing) (tail : List ℕ) : Type 0 where
-  ended : m.ended ≡ true
-  body : t.body ≡ length (body_of m)
-  last : tail ≡ end_bytes f (unwrap_or m.trailers [])
+pub record IsDone (m : Changed) (t : Taken) (f : Framing) (tail : List ℕ) : Type 0 where
+  pub ended : m.ended ≡ true
+  pub body : t.body ≡ length (body_of m)
+  pub last : tail ≡ end_bytes f (unwrap_or m.trailers [])
 
 -- what of the body was handed out: some pieces, and then bytes that pass
-record Shown (m : Changed) (t : Taken) : Type 0 where
-  gone : List (List ℕ)
-  left : List (List ℕ)
-  cuts : List (List ℕ)
-  rest : List ℕ
-  pieces : m.pieces ≡ gone ++ left
-  passing : m.passing ≡ joined cuts ++ rest
-  sizes : Sizes cuts
-  order : (cuts ≡ []) ⊎ (joined left ≡ [])
-  body : t.body ≡ length (joined gone) + length (joined cuts)
+pub record Shown (m : Changed) (t : Taken) : Type 0 where
+  pub gone : List (List ℕ)
+  pub left : List (List ℕ)
+  pub cuts : List (List ℕ)
+  pub rest : List ℕ
+  pub pieces : m.pieces ≡ gone ++ left
+  pub passing : m.passing ≡ joined cuts ++ rest
+  pub sizes : Sizes cuts
+  pub order : (cuts ≡ []) ⊎ (joined left ≡ [])
+  pub body : t.body ≡ length (joined gone) + length (joined cuts)
 
-record Gone (d : Direction) (m : Changed) (t : Taken) (outs : List Out) : Type 0 where
-  head : t.head ≡ true
-  out : Outgoing
-  chosen : m.head ≡ Some out
-  framing : framing_in outs ≡ Some out.framing
-  trailers : has_trailers outs ≡ t.trailers
-  shown : Shown m t
-  tail : List ℕ
-  none : t.trailers ≡ false → t.ended ≡ false → tail ≡ []
-  done : (t.trailers ≡ true) ⊎ (t.ended ≡ true) → IsDone m t out.framing tail
-  last : t.ended ≡ true → t.trailers ≡ false → m.trailers ≡ None
-  bytes : written_parts d outs ≡ head_bytes d out.fields out.framing ++ (body_bytes out.framing (shown.gone ++ shown.cuts) ++ tail)
+pub record Gone (d : Direction) (m : Changed) (t : Taken) (outs : List Out) : Type 0 where
+  pub head : t.head ≡ true
+  pub out : Outgoing
+  pub chosen : m.head ≡ Some out
+  pub framing : framing_in outs ≡ Some out.framing
+  pub trailers : has_trailers outs ≡ t.trailers
+  pub shown : Shown m t
+  pub tail : List ℕ
+  pub none : t.trailers ≡ false → t.ended ≡ false → tail ≡ []
+  pub done : (t.trailers ≡ true) ⊎ (t.ended ≡ true) → IsDone m t out.framing tail
+  pub last : t.ended ≡ true → t.trailers ≡ false → m.trailers ≡ None
+  pub bytes : written_parts d outs ≡ head_bytes d out.fields out.framing ++ (body_bytes out.framing (shown.gone ++ shown.cuts) ++ tail)
 
-abbrev IsGone : Direction → Changed → Taken → List Out → Type 0
+abbrev pub IsGone : Direction → Changed → Taken → List Out → Type 0
 IsGone d m t outs = (Untouched t outs × (written_parts d outs ≡ [])) ⊎ Gone d m t outs
 
-body_length : (m : Changed) (t : Taken) (s : Shown m t) → length (body_of m) ≡ t.body + (length (joined s.left) + length s.rest)
+pub body_length : (m : Changed) (t : Taken) (s : Shown m t) → length (body_of m) ≡ t.body + (length (joined s.left) + length s.rest)
 body_length m t s =
     let a : length (body_of m) ≡ length (joined m.pieces) + length m.passing = length-append (joined m.pieces) m.passing in
     let b : length (joined m.pieces) ≡ length (joined s.gone) + length (joined s.left) =
@@ -275,7 +275,7 @@ head_gone d m t outs fields framing (inl (u, e)) k = inr (record {
 
 -- Body bytes
 
-next_is : (m : Changed) (t : Taken) (s : Shown m t) (max : ℕ) (b : List ℕ) → IsNextData max m.pieces m.passing t.body b → (PieceNext s.left b × (s.cuts ≡ [])) ⊎ PassNext s.left s.rest max b
+pub next_is : (m : Changed) (t : Taken) (s : Shown m t) (max : ℕ) (b : List ℕ) → IsNextData max m.pieces m.passing t.body b → (PieceNext s.left b × (s.cuts ≡ [])) ⊎ PassNext s.left s.rest max b
 next_is m t s max b k = by s.order
   where
     at : IsNextData max (s.gone ++ s.left) (joined s.cuts ++ s.rest) (length (joined s.gone) + length (joined s.cuts)) b
@@ -295,7 +295,7 @@ next_is m t s max b k = by s.order
     by (inr e) = inr (passes_next max s.left (joined s.cuts) s.rest b e (from_empty max s.left (joined s.cuts ++ s.rest) (length (joined s.cuts)) b e within))
 
 -- some of the body was left
-some_left : (m : Changed) (t : Taken) (s : Shown m t) (b : List ℕ) → (PieceNext s.left b × (s.cuts ≡ [])) ⊎ PassNext s.left s.rest passing_limit b → t.body < length (body_of m)
+pub some_left : (m : Changed) (t : Taken) (s : Shown m t) (b : List ℕ) → (PieceNext s.left b × (s.cuts ≡ [])) ⊎ PassNext s.left s.rest passing_limit b → t.body < length (body_of m)
 some_left m t s b (inl (n, e)) =
     let l : length (body_of m) ≡ t.body + (length (joined s.left) + length s.rest) = body_length m t s in
     let k : length (joined s.left) ≡ length (joined n.front) + length (joined (b ∷ n.back)) =
@@ -373,7 +373,7 @@ behind_bytes d outs f out e = ap (λ o. written_parts d outs ++ part_bytes d o (
 longer : (head body tail more : List ℕ) → (head ++ (body ++ tail)) ++ more ≡ head ++ (body ++ (tail ++ more))
 longer head body tail more = append_assoc head (body ++ tail) more ∙ ap (λ l. head ++ l) (append_assoc body tail more)
 
-not_true : (b : Bool) → (b ≡ true → ⊥) → b ≡ false
+pub not_true : (b : Bool) → (b ≡ true → ⊥) → b ≡ false
 not_true true f = absurd (f refl)
 not_true false f = refl
 
@@ -425,12 +425,12 @@ still_shown m t t' e s = record {
   body = e ∙ s.body;
 }
 
-left_of : (m : Changed) (b : Bool) (fields : List Field) → trailers_left m b ≡ Some fields → (b ≡ false) × (m.trailers ≡ Some fields)
+pub left_of : (m : Changed) (b : Bool) (fields : List Field) → trailers_left m b ≡ Some fields → (b ≡ false) × (m.trailers ≡ Some fields)
 left_of m true fields e = absurd cc
 left_of m false fields e = (refl, e)
 
 -- what ends is said by the message itself
-abbrev ShownEnds : Changed → Type 0
+abbrev pub ShownEnds : Changed → Type 0
 ShownEnds m = (fields : List Field) → m.trailers ≡ Some fields → m.ended ≡ true
 
 trailers_gone : (d : Direction) (m : Changed) (t : Taken) (outs : List Out) (fields : List Field) → ShownEnds m → IsGone d m t outs → MayGive passing_limit m t (part.Trailers fields)
@@ -534,7 +534,7 @@ nothing_gone d m t outs (inr g) = inr (record {
 
 -- Along a past
 
-shown_ends : (c : CourseConfig) (d : Direction) (w : Course) → ShownEnds (changed c d w)
+pub shown_ends : (c : CourseConfig) (d : Direction) (w : Course) → ShownEnds (changed c d w)
 unfolding changed
 shown_ends c d w fields = by w.head (replacement d w)
   where
@@ -557,7 +557,7 @@ part_gone c d w t outs (part.Trailers fields) g k = trailers_gone d (changed c d
 part_gone c d w t outs part.End g k = end_gone d (changed c d w) t outs g k
 part_gone c d w t outs part.Nothing g k = nothing_gone d (changed c d w) t outs g
 
-along : (c : CourseConfig) (d : Direction) (modes : PartModes) (steps : List HalfStep) → AreSteps c d modes steps
+pub along : (c : CourseConfig) (d : Direction) (modes : PartModes) (steps : List HalfStep) → AreSteps c d modes steps
     → Keeps c (progress_of c d modes steps).course × IsGone d (changed c d (progress_of c d modes steps).course) (progress_of c d modes steps).taken (parts steps)
 unfolding half_rules
 along c d modes [] y = (keeps_fresh c modes, inl (record { head = refl; body = refl; trailers = refl; ended = refl; shown = refl; framing = refl }, refl))

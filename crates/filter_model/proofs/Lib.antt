@@ -21,3 +21,11 @@ pub mod DoneStays
 pub mod WiderPieces
 pub mod HalfGrows
 pub mod HalfWritten
+pub mod Known
+pub mod ToldSame
+pub mod ToldHead
+pub mod ToldReading
+pub mod DataGiven
+pub mod PartsGiven
+pub mod HandedFits
+pub mod ToldEntry

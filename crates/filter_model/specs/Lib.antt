@@ -5,9 +5,12 @@ pub mod Grown
 pub mod Sound
 pub mod Half
 pub mod HalfRight
+pub mod Given
 pub mod View
 pub mod Account
 pub mod Cut
 pub mod Answers
 pub mod Step
+pub mod Told
 pub mod Right
+pub mod Held

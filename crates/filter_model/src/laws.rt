@@ -1,22 +1,27 @@
 //! Laws of the definitions, as contracts of functions that do nothing.
 ghost use Rattle.ext_msgs.specs.Spelling.{ask};
-ghost use Rattle.filter_model.specs.Account.{ExchangeAccount, Live, course, is_finished};
-ghost use Rattle.filter_model.specs.Config.{FilterConfig};
-ghost use Rattle.filter_model.specs.Course.{Changed, changed};
-ghost use Rattle.filter_model.specs.Cut.{is_whole_and_done};
+ghost use Rattle.ext_msgs.specs.declared.answer.Common.{Common};
+ghost use Rattle.filter_model.specs.Account.{ExchangeAccount, Live, course, gathered, given_count, is_finished};
+ghost use Rattle.filter_model.specs.Config.{CourseConfig, FilterConfig};
+ghost use Rattle.filter_model.specs.Course.{Course, Changed, asked, body_of, body_room, changed, committed, is_over, queue};
+ghost use Rattle.filter_model.specs.Cut.{AnswerKind, is_whole_and_done};
+ghost use Rattle.filter_model.specs.Given.{data_in};
 ghost use Rattle.filter_model.specs.Grown.{Grown};
-ghost use Rattle.filter_model.specs.Half.{Past, Taken, MayGive, NothingDue, becomes, parts, progress};
+ghost use Rattle.filter_model.specs.Half.{HalfCall, Past, Taken, MayGive, NothingDue, becomes, called, course as past_course, parts, progress, refusal};
 ghost use Rattle.filter_model.specs.HalfRight.{IsPast, written_parts};
 ghost use Rattle.filter_model.specs.Outgoing.{IsWire};
-ghost use Rattle.filter_model.specs.Right.{Call, Headline, IsHistory, account, ask_given, is_done};
+ghost use Rattle.filter_model.specs.Right.{Call, Stepped, Headline, IsHistory, account, ask_given, is_done};
 ghost use Rattle.filter_model.specs.Step.{is_live, step};
+ghost use Rattle.filter_model.specs.Told.{Comes, IsNoCut, IsOfSides, IsShort, ReadWell, asks_behind, known, news, told};
 ghost use Rattle.filter_model.specs.View.{ViewEntry, Lost};
 ghost use Rattle.filter_model.specs.declared.calls.Loss.{Loss};
 ghost use Rattle.filter_model.specs.declared.calls.Side.{Side};
 ghost use Rattle.http_model.specs.Bytes.{IsPrefix};
+ghost use Rattle.http_model.specs.Reads.{Original, reads};
 ghost use Rattle.http_model.specs.declared.types.Direction.{Direction};
+ghost use Rattle.http_model.specs.declared.types.Direction.TheVariants.{Request, Response};
 ghost use Rattle.http_model.specs.declared.types.Out.{Out};
-ghost use Rattle.std.specs.Prelude.{List, map, reverse, filter_map, true, false, ◌∷◌, ◌≡◌, ◌≤◌, ◌+◌, ◌⊎◌, ℕ};
+ghost use Rattle.std.specs.Prelude.{Bool, List, [], map, reverse, filter_map, true, false, ◌∷◌, ◌++◌, ◌≡◌, ◌≤◌, ◌+◌, ◌-◌, ◌⊎◌, ℕ, drop, length, take};
 
 /// In every history the asks that went out are the first of those made, in order.
 pub fn asks_in_order()
@@ -71,4 +76,61 @@ pub fn parts_are_the_first()
 pub fn done_stays()
     ensures { (c : FilterConfig) (call : Call) (h : List Call) → IsHistory c (call ∷ h) → (s : Side) →
         is_done c (account c h) s ≡ true → is_done c (account c (call ∷ h)) s ≡ true }
+{}
+
+/// No rule of a course reads what the reader alone knows: the course that a half has, without that, makes the same asks,
+/// chooses the same head and becomes the same message, and each call of a half leaves it out too.
+pub fn known_is_enough()
+    ensures committed { (c : CourseConfig) (d : Direction) (w : Course) →
+        committed c d (known w) ≡ known (committed c d w) }
+    ensures asked { (c : CourseConfig) (d : Direction) (w : Course) → asked c d (known w) ≡ known (asked c d w) }
+    ensures called { (call : HalfCall) (w : Course) → called call (known w) ≡ known (called call w) }
+    ensures changed { (c : CourseConfig) (d : Direction) (w : Course) → changed c d (known w) ≡ changed c d w }
+    ensures queue { (c : CourseConfig) (d : Direction) (w : Course) → queue c d (known w) ≡ queue c d w }
+    ensures room { (c : CourseConfig) (d : Direction) (w : Course) → body_room c d (known w) ≡ body_room c d w }
+    ensures over { (c : CourseConfig) (w : Course) → is_over c (known w) ≡ is_over c w }
+    ensures refusal { (c : CourseConfig) (d : Direction) (w : Course) (kind : AnswerKind) (a : Common) →
+        refusal c d (known w) kind a ≡ refusal c d w kind a }
+{}
+
+/// A half that is told in turn what its side brings comes to the course that the account makes of all of it at once.
+pub fn reading_told()
+    ensures told { (c : CourseConfig) (d : Direction) (w : Course) (now : Original) → Comes c d w now →
+        told c d (news c d (known w) now) (known w) ≡ known (asked c d (committed c d (record w { original = now }))) }
+    ensures well { (d : Direction) (to_head : Bool) (bytes : List ℕ) (ended : Bool) →
+        ReadWell (reads d to_head bytes ended) }
+{}
+
+/// What a side was given, the first bytes of the front and of the parts that were handed out, has as many body bytes as
+/// these parts say. So a writer counts the bytes of each part that it gives, and reads nothing back.
+pub fn given_is_counted()
+    ensures { (p : Past) → IsPast p → (front : List ℕ) (n : ℕ) →
+        given_count p.direction (becomes p).head front (take n (front ++ written_parts p.direction (parts p.steps)))
+        ≡ data_in p.direction (parts p.steps) (n - length front) }
+{}
+
+/// In a past of one direction no more of the body was given than handed out, and no more handed out than there is. So the
+/// bytes that wait are those that were handed out and not given, and those that weren't handed out.
+pub fn what_waits()
+    ensures given { (p : Past) → IsPast p → (past_course p).given ≤ (progress p).taken.body }
+    ensures handed { (p : Past) → IsPast p → (progress p).taken.body ≤ length (body_of (becomes p)) }
+    ensures waits { (p : Past) → IsPast p → queue p.config p.direction (past_course p)
+        ≡ ((progress p).taken.body - (past_course p).given)
+        + length (drop (progress p).taken.body (body_of (becomes p))) }
+{}
+
+/// One entry of the two sides that is no cut: the half of each direction is told what its reader makes of it, which is
+/// nothing in the other direction, and has then the account's course. The asks that the halves make meanwhile are those
+/// of the account, the request's first.
+pub fn entry_told()
+    ensures told { (c : FilterConfig) (h : List Call) (e : ViewEntry) → IsHistory c (Stepped e ∷ h) → IsOfSides e
+        → IsNoCut c e (account c h) → c.course.piece ≤ c.course.mark → (d : Direction)
+        → IsShort c (course d (account c h)) (course d (gathered e (account c h)))
+        → known (course d (account c (Stepped e ∷ h)))
+        ≡ told c.course d (news c.course d (known (course d (account c h)))
+        (course d (gathered e (account c h))).original) (known (course d (account c h))) }
+    ensures made { (c : FilterConfig) (e : ViewEntry) (a : ExchangeAccount) → IsOfSides e → IsNoCut c e a
+        → (step c e a).made ≡ (a.made ++ asks_behind Request a.request.course (step c e a).request.course)
+        ++ asks_behind Response a.response.course (step c e a).response.course }
+    ensures none { (c : CourseConfig) (d : Direction) (w : Course) → news c d (known w) w.original ≡ [] }
 {}
