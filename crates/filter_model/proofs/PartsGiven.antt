@@ -35,10 +35,6 @@ no_end_yet d m t outs g l = g.none (not_true t.trailers (λ z. full (g.done (inl
 
 -- What one part adds
 
--- of parts behind which nothing ends the body
-abbrev ahead : Direction → Outgoing → List (List ℕ) → List ℕ
-ahead d o pieces = head_bytes d o.fields o.framing ++ body_bytes o.framing pieces
-
 counted_with : (d : Direction) (o : Outgoing) (outs : List Out) (out : Out) (behind more : List ℕ) (n : ℕ)
     → written_parts d outs ≡ head_bytes d o.fields o.framing ++ behind → written_parts d (out ∷ outs) ≡ head_bytes d o.fields o.framing ++ (behind ++ more)
     → Counted d o outs

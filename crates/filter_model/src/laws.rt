@@ -78,8 +78,8 @@ pub fn done_stays()
         is_done c (account c h) s ≡ true → is_done c (account c (call ∷ h)) s ≡ true }
 {}
 
-/// No rule of a course reads what the reader alone knows: the course that a half has, without that, makes the same asks,
-/// chooses the same head and becomes the same message, and each call of a half leaves it out too.
+/// No rule of a course reads what the reader alone knows: the course that a half has, without that, makes the same
+/// asks, chooses the same head and becomes the same message, and each call of a half leaves it out too.
 pub fn known_is_enough()
     ensures committed { (c : CourseConfig) (d : Direction) (w : Course) →
         committed c d (known w) ≡ known (committed c d w) }
@@ -109,8 +109,8 @@ pub fn given_is_counted()
         ≡ data_in p.direction (parts p.steps) (n - length front) }
 {}
 
-/// In a past of one direction no more of the body was given than handed out, and no more handed out than there is. So the
-/// bytes that wait are those that were handed out and not given, and those that weren't handed out.
+/// In a past of one direction no more of the body was given than handed out, and no more handed out than there is. So
+/// the bytes that wait are those that were handed out and not given, and those that weren't handed out.
 pub fn what_waits()
     ensures given { (p : Past) → IsPast p → (past_course p).given ≤ (progress p).taken.body }
     ensures handed { (p : Past) → IsPast p → (progress p).taken.body ≤ length (body_of (becomes p)) }
