@@ -29,3 +29,4 @@ pub mod DataGiven
 pub mod PartsGiven
 pub mod HandedFits
 pub mod ToldEntry
+pub mod FewAsks

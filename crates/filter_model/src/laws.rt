@@ -134,3 +134,11 @@ pub fn entry_told()
         ++ asks_behind Response a.response.course (step c e a).response.course }
     ensures none { (c : CourseConfig) (d : Direction) (w : Course) → news c d (known w) w.original ≡ [] }
 {}
+
+/// In every list of calls at most four asks of a direction aren't sent, and at most eight of both. So eight marks keep
+/// the order in which they were made.
+pub fn few_unsent()
+    ensures each { (c : FilterConfig) (h : List Call) (d : Direction) →
+        length (course d (account c h)).asks ≤ (course d (account c h)).sent + 4 }
+    ensures both { (c : FilterConfig) (h : List Call) → length (account c h).made ≤ (account c h).sent + 8 }
+{}
