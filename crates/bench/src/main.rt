@@ -6,6 +6,7 @@ mod calls;
 mod floods;
 mod frames;
 mod h1;
+mod half;
 mod hpack;
 mod messages;
 mod queues;
@@ -23,6 +24,7 @@ heads         request heads of about 200 bytes and 8 KiB are read, in one feed a
 bodies        16 MiB in chunks of 16 KiB and then of 1 byte are read, in feeds of several lengths, a byte
 frames        DATA frames of 16 KiB are read, a byte
 calls         messages of 20 bytes and then of 64 KiB are read, in feeds of 1, 100 and 16,384 bytes, a byte
+half          64 MiB of a body pass, are kept, cleared, replaced, or asked 64 KiB at once, beside a copy, a byte
 huffman       1 MiB of text is spelled as a Huffman string and read back, a byte of text
 hpack         header blocks of twelve fields are written and read, a block
 sessions      a server's session is fed frames of 1, 64 and 256 live streams, a frame, and 64 MiB on one, a byte
@@ -43,6 +45,7 @@ fn main(rt: HostRuntime) -> Result<()> {
         "bodies" => h1::measure_bodies(&rt),
         "frames" => frames::measure(&rt),
         "calls" => calls::measure(&rt),
+        "half" => half::measure(&rt),
         "huffman" => hpack::measure_huffman(&rt),
         "hpack" => hpack::measure_blocks(&rt),
         "sessions" => sessions::measure(&rt),
