@@ -8,7 +8,6 @@ use Rattle.filter_model.specs.Course.{Course, AskedPart, Headers, Body, Trailers
 use Rattle.filter_model.specs.Half.{Past, Progress, Answer, called, progress, course}
 use Rattle.half_machine.specs.Answering.{brings_other, change_bytes, headers_joined, new_bytes, piece_for, with_other, with_answer, CanJoin, MayAnswer}
 use Rattle.half_machine.specs.Choosing.{Holds}
-use Rattle.half_machine.specs.Handing.{IsThere}
 use Rattle.half_machine.specs.Judging.{answered_mark}
 use Rattle.half_machine.specs.Marks.{mark_of}
 use Rattle.half_machine.specs.Room.{most_back}
@@ -16,7 +15,7 @@ use Rattle.half_machine.specs.Stands.{MadeWith, Ties, StandsFor}
 use Rattle.half_machine.specs.declared.marks.Mark.{Mark}
 use Rattle.half_machine.specs.declared.marks.Mark.TheVariants as mark
 use Rattle.half_machine.specs.declared.half.Half.{Half}
-use Rattle.half_machine.proofs.Answered.{joined, marks_out, lent_out, oldest_there}
+use Rattle.half_machine.proofs.Answered.{joined, marks_out, lent_out}
 use Rattle.half_machine.proofs.AnsweredBody.{body_ties, piece_is, piece_few}
 use Rattle.half_machine.proofs.AnsweredHeaders.{HeadersOut, headers_out, headers_ties, new_few}
 use Rattle.half_machine.proofs.AnsweredTrailers.{trailers_ties}
@@ -58,11 +57,6 @@ pub answer_can : (p : Past) (x : Half) (m : Mark) (n : ℕ) (a : Common) → Sta
 answer_can p x m n a s y e r =
     let k : Taken p x m n a = taken p x m n a s e in
     subst (λ z. CanJoin z a x) k.mark (can_join p.config p.direction (progress p) x a k.oldest k.more s.made s.ties k.out r y.fits)
-
-pub answer_there : (p : Past) (x : Half) (m : Mark) (n : ℕ) (a : Common) → StandsFor p x → answered_mark x.marks n a.body ≡ Some m → IsThere x m 0
-answer_there p x m n a s e =
-    let k : Taken p x m n a = taken p x m n a s e in
-    subst (λ z. IsThere x z 0) k.mark (oldest_there p.config p.direction (progress p) x k.oldest k.more s.ties k.out)
 
 -- All of a half
 

@@ -9,12 +9,12 @@ use Rattle.http_model.specs.declared.types.Direction.{Direction}
 use Rattle.body_hold.specs.Held.{Held}
 use Rattle.filter_model.specs.Answers.{ask_of}
 use Rattle.filter_model.specs.Config.{CourseConfig}
-use Rattle.filter_model.specs.Course.{AskedPart, Headers, Body, Trailers, Outgoing, changed_head, bytes_in, is_body, is_trailers, under, out, answer_to}
+use Rattle.filter_model.specs.Course.{AskedPart, Outgoing, changed_head, bytes_in, is_body, is_trailers, under, out, answer_to}
 use Rattle.filter_model.specs.Half.{Progress}
 use Rattle.filter_model.proofs.CourseGrows.{with_answer, drop_more}
 use Rattle.filter_model.proofs.Sounds.{join_sound}
 use Rattle.half_machine.specs.Answering.{is_unhanded, ready_with}
-use Rattle.half_machine.specs.Handing.{part_from, part_at, IsThere}
+use Rattle.half_machine.specs.Handing.{part_from, part_at}
 use Rattle.half_machine.specs.Marks.{mark_of}
 use Rattle.half_machine.specs.Pieces.{OfPieces, pieces_of}
 use Rattle.half_machine.specs.Room.{OfRoom, most_back}
@@ -47,11 +47,6 @@ oldest_part c d p x q more t o =
     first_same q (part_at x (mark_of q) 0)
     (part_is x.head x.arrived.framed x.trailers (q ∷ more) 0 (mark_of q) (subst (AreKept x.head x.arrived.framed x.trailers) o t.parts) refl
     ∙ ap (λ l. Some (part_from x.head x.arrived.framed x.trailers l (mark_of q) 0)) (sym (lent_out c d p x q more t o)))
-
-pub oldest_there : (c : CourseConfig) (d : Direction) (p : Progress) (x : Half) (q : AskedPart) (more : List AskedPart) → Ties c d p x → out p.course ≡ q ∷ more → IsThere x (mark_of q) 0
-oldest_there c d p x (Headers f l) more t o = tt
-oldest_there c d p x (Body b l) more t o = let e : length x.hold.lent ≡ length (b ∷ map bytes_in (filter is_body more)) = ap length (lent_out c d p x (Body b l) more t o) in omega arith
-oldest_there c d p x (Trailers f) more t o = tt
 
 -- What waits to be handed out
 

@@ -322,10 +322,6 @@ fields_body c d p x a b l more t o r h z = by_mode d p x a t.rule ∙ by (is_buf
     by true e = absurd (clash (ap is_some (sym z) ∙ ap is_some (head_waits p.course (Body b l) more o r refl e t.body_asks)))
     by false e = t.fields h z
 
-or_second : (x y : Bool) → (x || y) ≡ false → y ≡ false
-or_second true y e = absurd (clash e)
-or_second false y e = e
-
 pub other_head : (old new : Option (List Field)) (n : Length) (trailers : List Field) (asks : List AskedPart) → list_any is_headers asks ≡ false → AreKept old n trailers asks → AreKept new n trailers asks
 other_head old new n trailers [] e k = tt
 other_head old new n trailers (Headers f l ∷ asks) e k = absurd (clash e)

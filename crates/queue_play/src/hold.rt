@@ -57,6 +57,7 @@ fn change(alloc: Global, hold: &mut Hold, call: &str, operand: &str) -> Result<(
         "pass" => pass(hold, operand.parse::<u32>()?),
         "pass-lent" => pass_lent(hold),
         "take" => take(hold, operand.parse::<u32>()?),
+        "replace-hand" => replace_hand(hold, operand.as_bytes()),
         "take-hand" => take_hand(hold, operand.parse::<u32>()?),
         _ => bail!("no call: {call}"),
     }
@@ -134,6 +135,19 @@ fn pass_lent(hold: &mut Hold) -> Result<()>
         bail!("too many bytes");
     }
     hold.pass_lent();
+    Ok(())
+}
+
+fn replace_hand(hold: &mut Hold, body: &[u8]) -> Result<()>
+    requires limit { hold.old.limit ≡ 16 }
+    requires answer { hold.old.answer ≡ 1024 }
+    ensures limit { hold.new.limit ≡ 16 }
+    ensures answer { hold.new.answer ≡ 1024 }
+{
+    if body.len() > MOST || hold.out_len() as usize > MOST {
+        bail!("too many bytes");
+    }
+    hold.replace_hand(body);
     Ok(())
 }
 
