@@ -1,5 +1,5 @@
-//! One direction of a message: 64 MiB that pass unasked, are asked piece by piece, or are asked 64 KiB at once, beside a
-//! plain copy of the same bytes.
+//! One direction of a message: 64 MiB that pass unasked, are asked piece by piece, or are asked 64 KiB at a time,
+//! beside a plain copy of the same bytes.
 
 use crate::table::{nanos_since, print_row};
 use anyhow::{Result, bail};
