@@ -172,15 +172,15 @@ front_same c e a Response o h r x k = by (front_read c a (now Request e a) h x (
     by (inl e) = e
     by (inr (n, z)) = absurd (changed_some c.course Response a.response.course o k n)
 
-no_longer : (xs ys : List ℕ) → IsPrefix xs ys → length xs ≤ length ys
+pub no_longer : (xs ys : List ℕ) → IsPrefix xs ys → length xs ≤ length ys
 no_longer xs ys p = let e : length xs + length p.rest ≡ length ys = sym (length-append xs p.rest) ∙ ap length p.whole in omega (arith, e)
 
-live_is : (f : Fate) → is_live f ≡ true → f ≡ Live
+pub live_is : (f : Fate) → is_live f ≡ true → f ≡ Live
 live_is Live e = refl
 live_is _ e = absurd cc
 
 -- before its head a side got no more than what goes before it
-few_given : (c : FilterConfig) (h : List Call) → IsHistory c h → is_live (account c h).fate ≡ true → (d : Direction) → (course d (account c h)).head ≡ None
+pub few_given : (c : FilterConfig) (h : List Call) → IsHistory c h → is_live (account c h).fate ≡ true → (d : Direction) → (course d (account c h)).head ≡ None
     → length (flow d (account c h)).given ≤ length (front d (account c h))
 few_given c h y l Request k =
     let a : ExchangeAccount = account c h in
@@ -209,7 +209,7 @@ drop_over n [] h = drop_none n
 drop_over ℕ.zero (x ∷ l) h = absurd (omega (arith, h))
 drop_over (ℕ.suc n) (x ∷ l) h = drop_over n l (omega (arith, h))
 
-none_given : (d : Direction) (o : Option Outgoing) (front given : List ℕ) → length given ≤ length front → given_count d o front given ≡ 0
+pub none_given : (d : Direction) (o : Option Outgoing) (front given : List ℕ) → length given ≤ length front → given_count d o front given ≡ 0
 none_given d None front given h = refl
 none_given d (Some o) front given h =
     let e : length (front ++ head_bytes d o.fields o.framing) ≡ length front + length (head_bytes d o.fields o.framing) = length-append front (head_bytes d o.fields o.framing) in
@@ -220,13 +220,13 @@ none_given d (Some o) front given h =
     none (Length m) = refl
     none Chunked = refl
 
-head_stays : (o : Outgoing) (h x : Option Outgoing) (b : Bool) → h ≡ Some o → (if is_none h && b then x else h) ≡ Some o
+pub head_stays : (o : Outgoing) (h x : Option Outgoing) (b : Bool) → h ≡ Some o → (if is_none h && b then x else h) ≡ Some o
 head_stays o (Some y) x b e = e
 head_stays o None x b e = absurd cc
 
 -- The course of one direction
 
-rested : (d : Direction) (c : FilterConfig) (a : ExchangeAccount) → Steady c a → is_live a.fate ≡ true → Rested c.course d (course d a) (front d a) (flow d a).given
+pub rested : (d : Direction) (c : FilterConfig) (a : ExchangeAccount) → Steady c a → is_live a.fate ≡ true → Rested c.course d (course d a) (front d a) (flow d a).given
 rested Request c a s l = (s.rest (live_is a.fate l)).0
 rested Response c a s l = (s.rest (live_is a.fate l)).1
 
@@ -286,13 +286,13 @@ counted c h e d y s l x = by (course d a).head refl
         ∙ ap (given_count d (Some o) (front d a)) (reads_alone d e a s).1
         ∙ ap (λ z. given_count d z (front d a) (flow d a).given) (sym n) ∙ sym r.counted
 
-course_is : (c : FilterConfig) (d : Direction) (x : ExchangeAccount) → course d (with_ending c (asked_in c Response (asked_in c Request (settled c x))))
+pub course_is : (c : FilterConfig) (d : Direction) (x : ExchangeAccount) → course d (with_ending c (asked_in c Response (asked_in c Request (settled c x))))
     ≡ asked c.course d (counted_course d (front d x) (flow d x).given (committed c.course d (course d x)))
 unfolding with_ending asked_in settled
 course_is c Request x = refl
 course_is c Response x = refl
 
-same_count : (d : Direction) (front given : List ℕ) (v : Course) → given_count d v.head front given ≡ v.given → counted_course d front given v ≡ v
+pub same_count : (d : Direction) (front given : List ℕ) (v : Course) → given_count d v.head front given ≡ v.given → counted_course d front given v ≡ v
 same_count d front given v e = ap (λ n. record v { given = n }) e
 
 committed_given : (c : CourseConfig) (d : Direction) (w : Course) → (committed c d w).given ≡ w.given
