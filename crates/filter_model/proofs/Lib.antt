@@ -32,3 +32,4 @@ pub mod ToldEntry
 pub mod FewAsks
 pub mod ToldOthers
 pub mod ToldRelease
+pub mod ToldAnswer
