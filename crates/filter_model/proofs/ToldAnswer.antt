@@ -9,7 +9,7 @@ use Rattle.http_model.specs.Bytes.{is_empty}
 use Rattle.http_model.specs.Heads.{is_bodiless}
 use Rattle.http_model.specs.declared.types.Direction.{Direction}
 use Rattle.filter_model.specs.Config.{CourseConfig}
-use Rattle.filter_model.specs.Course.{Course, AskedPart, asked, committed, head_may_go, is_buffered, is_headers, is_settled, is_stopped, mode, next, next_at, next_body, next_trailers, answer_to, is_body, out}
+use Rattle.filter_model.specs.Course.{Course, AskedPart, asked, committed, head_may_go, is_buffered, is_headers, is_stopped, mode, next, next_at, next_body, next_trailers, answer_to, is_body, out}
 use Rattle.filter_model.specs.Half.{Answer, Settle, called, settled_modes}
 use Rattle.filter_model.specs.Sound.{Sound}
 use Rattle.filter_model.specs.Told.{told}

@@ -1,32 +1,30 @@
 -- One entry of the two sides that is no cut: what its halves are told, and what the account makes of it.
 use Rattle.std.proofs.Common.{inl, inr, sym, ◌∙◌, ap, subst, refl, arith, length-append}
-use Rattle.std.specs.Prelude.{ℕ, ◌≡◌, ◌⊎◌, ◌+◌, ◌≤◌, Bool, true, false, not, ◌&&◌, ◌||◌, List, [], ◌∷◌, ◌++◌, length, drop, Option, Some, None, if◌then◌else◌, is_none, option_map, nat_lt}
-use Rattle.ext_msgs.specs.declared.modes.BodyMode.{BodyMode}
-use Rattle.ext_msgs.specs.declared.modes.BodyMode.TheVariants.{NoAsk}
+use Rattle.std.specs.Prelude.{ℕ, ◌≡◌, ◌⊎◌, ◌+◌, ◌≤◌, Bool, true, false, ◌&&◌, ◌||◌, List, [], ◌∷◌, ◌++◌, length, drop, Option, Some, None, if◌then◌else◌, is_none, option_map, nat_lt}
 use Rattle.http_model.specs.Bytes.{IsPrefix}
 use Rattle.http_model.specs.Reader.{Extends}
-use Rattle.http_model.specs.Reads.{Original, reads}
+use Rattle.http_model.specs.Reads.{Original}
 use Rattle.http_model.specs.Wire.{head_bytes}
 use Rattle.http_model.specs.declared.types.Direction.{Direction}
 use Rattle.http_model.specs.declared.types.Direction.TheVariants.{Request, Response}
 use Rattle.http_model.specs.declared.types.Framing.{Framing}
 use Rattle.http_model.specs.declared.types.Framing.TheVariants.{NoField, Length, Chunked}
 use Rattle.filter_model.specs.Config.{CourseConfig, FilterConfig}
-use Rattle.filter_model.specs.Course.{Course, Outgoing, changed, changed_at, committed, asked, one_asked, outgoing, head_may_go, is_over, is_settled, is_buffered, mode_at, answer_to, is_headers, replaces, replacement}
+use Rattle.filter_model.specs.Course.{Course, Outgoing, changed, changed_at, committed, asked, outgoing, head_may_go, is_over, is_settled, is_buffered, mode_at, answer_to, is_headers, replacement}
 use Rattle.filter_model.specs.Outgoing.{carried}
 use Rattle.filter_model.specs.Account.{ExchangeAccount, Fate, Live, course, flow, front, gathered, brought, settled, counted_course, given_count, is_finished, is_given, is_given_at, is_released, is_to_head}
-use Rattle.filter_model.specs.Cut.{Cut, cut_rules, over_cut, processor_cut, peer_cut}
+use Rattle.filter_model.specs.Cut.{Cut, over_cut}
 use Rattle.filter_model.specs.Answers.{answered, asked_in}
 use Rattle.filter_model.specs.Right.{Call, Stepped, IsHistory, account, IsForClientAt}
-use Rattle.filter_model.specs.Step.{accepted, no_cut, under_cut, under_departure, step, step_if, with_ending, on, after, cut, cut_at, first_of, is_departure, is_live}
+use Rattle.filter_model.specs.Step.{accepted, no_cut, under_cut, under_departure, step, step_if, with_ending, on, after, cut, cut_at, is_live}
 use Rattle.filter_model.specs.View.{ViewEntry, Bytes, End, Lost, Tick}
 use Rattle.filter_model.specs.declared.calls.Side.TheVariants.{Client, Upstream}
 use Rattle.filter_model.specs.Sound.{Sound}
-use Rattle.filter_model.specs.Told.{Comes, IsNoCut, IsOfSides, IsShort, ReadWell, asks_behind, known, news, told}
-use Rattle.filter_model.proofs.Growing.{prefix_of_none, wire_none}
+use Rattle.filter_model.specs.Told.{IsNoCut, IsOfSides, IsShort, ReadWell, asks_behind, known, news, told}
+use Rattle.filter_model.proofs.Growing.{wire_none}
 use Rattle.filter_model.proofs.CourseGrows.{changed_none}
 use Rattle.filter_model.proofs.StepGrows.{Held, ReadsOn}
-use Rattle.filter_model.proofs.ReadAlong.{Read, Fits, reads_on}
+use Rattle.filter_model.proofs.ReadAlong.{Read, reads_on}
 use Rattle.filter_model.proofs.GivenRight.{fits, given_right, front_read, silent}
 use Rattle.filter_model.proofs.AtRest.{Rested, Steady, steady}
 use Rattle.filter_model.proofs.ToldReading.{reads_well, told_reading}

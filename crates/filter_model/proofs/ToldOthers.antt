@@ -1,14 +1,14 @@
 -- What the halves are told of an ask that was sent, of bytes that were given, and of a cut that lets the rest pass.
-use Rattle.std.proofs.Common.{inl, inr, sym, ◌∙◌, ap, refl, arith, append_assoc, length-append}
-use Rattle.std.specs.Prelude.{ℕ, suc, ◌≡◌, ◌⊎◌, ◌+◌, ◌-◌, ◌≤◌, Bool, true, false, not, ◌&&◌, ◌||◌, List, [], ◌∷◌, ◌++◌, length, drop, Option, Some, None, if◌then◌else◌, is_none}
+use Rattle.std.proofs.Common.{sym, ◌∙◌, ap, refl, arith, length-append}
+use Rattle.std.specs.Prelude.{ℕ, suc, ◌≡◌, ◌+◌, ◌-◌, ◌≤◌, Bool, true, false, ◌||◌, List, [], ◌∷◌, ◌++◌, length, drop, Option, Some, None, if◌then◌else◌}
 use Rattle.http_model.specs.Wire.{head_bytes}
 use Rattle.http_model.specs.declared.types.Direction.{Direction}
 use Rattle.http_model.specs.declared.types.Direction.TheVariants.{Request, Response}
 use Rattle.http_model.specs.declared.types.Framing.{Framing}
 use Rattle.http_model.specs.declared.types.Framing.TheVariants.{NoField, Length, Chunked}
 use Rattle.filter_model.specs.Config.{CourseConfig, FilterConfig}
-use Rattle.filter_model.specs.Course.{Course, Outgoing, committed, asked, due, head_may_go}
-use Rattle.filter_model.specs.Outgoing.{Framed, framed_on, is_data, data_count, InSize, carried}
+use Rattle.filter_model.specs.Course.{Course, Outgoing, committed, asked, head_may_go}
+use Rattle.filter_model.specs.Outgoing.{Framed, framed_on, data_count, InSize, carried}
 use Rattle.filter_model.specs.Account.{ExchangeAccount, course, flow, front, gathered, settled, counted_course, given_count, is_in, unsent, is_finished, is_released, from, to}
 use Rattle.filter_model.specs.Answers.{answered, asked_in}
 use Rattle.filter_model.specs.Half as half
@@ -20,8 +20,8 @@ use Rattle.filter_model.specs.declared.calls.Side.{Side}
 use Rattle.filter_model.specs.declared.calls.Side.TheVariants.{Client, Upstream}
 use Rattle.filter_model.specs.declared.calls.Taken.TheVariants.{Piece}
 use Rattle.filter_model.specs.Told.{IsNoCut, known, more_given, told}
-use Rattle.filter_model.proofs.AtRest.{Rested, Steady, steady}
-use Rattle.filter_model.proofs.Known.{committed_known, asked_known, due_known}
+use Rattle.filter_model.proofs.AtRest.{Rested, steady}
+use Rattle.filter_model.proofs.Known.{asked_known, due_known}
 use Rattle.filter_model.proofs.ToldEntry.{rested, course_is, same_count}
 use Rattle.filter_model.proofs.ToldSame.{asked_none, committed_none, rests}
 

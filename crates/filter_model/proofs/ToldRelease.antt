@@ -4,12 +4,12 @@ use Rattle.std.specs.Prelude.{ℕ, ◌≡◌, ◌≤◌, Bool, true, false, ◌&
 use Rattle.http_model.specs.declared.types.Direction.{Direction}
 use Rattle.http_model.specs.declared.types.Direction.TheVariants.{Request, Response}
 use Rattle.filter_model.specs.Config.{FilterConfig}
-use Rattle.filter_model.specs.Course.{Course, Outgoing, asked, committed, head_may_go, outgoing}
+use Rattle.filter_model.specs.Course.{Course, Outgoing, committed, head_may_go, outgoing}
 use Rattle.filter_model.specs.Account.{ExchangeAccount, course, counted_course, flow, front, gathered, given_count, settled}
 use Rattle.filter_model.specs.Cut.{Cut}
 use Rattle.filter_model.specs.Half as half
 use Rattle.filter_model.specs.Right.{Call, Stepped, IsHistory, account}
-use Rattle.filter_model.specs.Step.{after, effect, is_live, lets_pass, on, step, step_if, under_cut, under_departure, with_ending}
+use Rattle.filter_model.specs.Step.{after, effect, lets_pass, on, step, step_if, under_cut, under_departure, with_ending}
 use Rattle.filter_model.specs.View.{ViewEntry, Answered, TooLong, Closed, NoStream, Tick}
 use Rattle.filter_model.specs.Told.{IsLetPass, IsOfProcessor, known, told}
 use Rattle.filter_model.proofs.AtRest.{Rested, none_due, released_next, steady}
