@@ -82,8 +82,8 @@ pub fn done_stays()
         is_done c (account c h) s ≡ true → is_done c (account c (call ∷ h)) s ≡ true }
 {}
 
-/// No rule of a course reads what the reader alone knows: the course that a half has, without that, makes the same asks,
-/// chooses the same head and becomes the same message, and each call of a half leaves it out too.
+/// No rule of a course reads what the reader alone knows: the course that a half has, without that, makes the same
+/// asks, chooses the same head and becomes the same message, and each call of a half leaves it out too.
 pub fn known_is_enough()
     ensures committed { (c : CourseConfig) (d : Direction) (w : Course) →
         committed c d (known w) ≡ known (committed c d w) }
@@ -100,7 +100,8 @@ pub fn known_is_enough()
 /// A half that is told in turn what its side brings comes to the course that the account makes of all of it at once.
 pub fn reading_told()
     ensures told { (c : CourseConfig) (d : Direction) (w : Course) (now : Original) → Comes c d w now →
-        told c d (news c d (known w) now) (known w) ≡ known (asked c d (committed c d (record w { original = now }))) }
+        told c d (news c d (known w) now) (known w)
+        ≡ known (asked c d (committed c d (record w { original = now }))) }
     ensures well { (d : Direction) (to_head : Bool) (bytes : List ℕ) (ended : Bool) →
         ReadWell (reads d to_head bytes ended) }
 {}
@@ -113,8 +114,8 @@ pub fn given_is_counted()
         ≡ data_in p.direction (parts p.steps) (n - length front) }
 {}
 
-/// In a past of one direction no more of the body was given than handed out, and no more handed out than there is. So the
-/// bytes that wait are those that were handed out and not given, and those that weren't handed out.
+/// In a past of one direction no more of the body was given than handed out, and no more handed out than there is. So
+/// the bytes that wait are those that were handed out and not given, and those that weren't handed out.
 pub fn what_waits()
     ensures given { (p : Past) → IsPast p → (past_course p).given ≤ (progress p).taken.body }
     ensures handed { (p : Past) → IsPast p → (progress p).taken.body ≤ length (body_of (becomes p)) }
@@ -147,19 +148,20 @@ pub fn few_unsent()
     ensures both { (c : FilterConfig) (h : List Call) → length (account c h).made ≤ (account c h).sent + 8 }
 {}
 
-/// What else the halves are told: that an ask was sent, which its own direction is told; that body bytes were given, which
-/// the direction to that side is told; and a release, where a cut lets the rest pass.
+/// What else the halves are told: that an ask was sent, which its own direction is told; that body bytes were given,
+/// which the direction to that side is told; and a release, where a cut lets the rest pass.
 pub fn calls_told()
     ensures sent { (c : FilterConfig) (h : List Call) → IsHistory c (Stepped Sent ∷ h) → IsNoCut c Sent (account c h)
         → (d : Direction) → known (course d (account c (Stepped Sent ∷ h)))
         ≡ told c.course d (if is_in d (unsent (account c h)) then OneSent ∷ [] else [])
         (known (course d (account c h))) }
-    ensures given { (c : FilterConfig) (h : List Call) (s : Side) (bytes : List ℕ) → IsHistory c (Took s (Piece bytes) ∷ h)
-        → IsNoCut c (Given s bytes) (account c h) → known (course (to s) (account c (Took s (Piece bytes) ∷ h)))
+    ensures given { (c : FilterConfig) (h : List Call) (s : Side) (bytes : List ℕ) →
+        IsHistory c (Took s (Piece bytes) ∷ h) → IsNoCut c (Given s bytes) (account c h)
+        → known (course (to s) (account c (Took s (Piece bytes) ∷ h)))
         ≡ told c.course (to s) (SoManyGiven (more_given s bytes (account c h)) ∷ [])
         (known (course (to s) (account c h))) }
-    ensures other { (c : FilterConfig) (h : List Call) (s : Side) (bytes : List ℕ) → IsHistory c (Took s (Piece bytes) ∷ h)
-        → IsNoCut c (Given s bytes) (account c h)
+    ensures other { (c : FilterConfig) (h : List Call) (s : Side) (bytes : List ℕ) →
+        IsHistory c (Took s (Piece bytes) ∷ h) → IsNoCut c (Given s bytes) (account c h)
         → known (course (from s) (account c (Took s (Piece bytes) ∷ h))) ≡ known (course (from s) (account c h)) }
     ensures release { (c : FilterConfig) (h : List Call) (e : ViewEntry) (k : Cut) → IsHistory c (Stepped e ∷ h)
         → IsOfProcessor e → IsLetPass c e (account c h) k → (d : Direction)
