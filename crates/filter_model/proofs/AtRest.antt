@@ -62,14 +62,14 @@ nothing_released : (head : Option (List Field)) (bodiless first o s : Bool) (b t
 nothing_released None bodiless first o s b t = refl
 nothing_released (Some l) bodiless first o s b t = refl
 
-none_due : (c : CourseConfig) (d : Direction) (w : Course) → next c w ≡ None → due c d w ≡ []
+pub none_due : (c : CourseConfig) (d : Direction) (w : Course) → next c w ≡ None → due c d w ≡ []
 none_due c d w e = by (is_permitted c d w)
   where
     by : (b : Bool) → (if b then option_to_list (next c w) else []) ≡ []
     by true = ap option_to_list e
     by false = refl
 
-released_next : (c : CourseConfig) (w : Course) → w.released ≡ true → next c w ≡ None
+pub released_next : (c : CourseConfig) (w : Course) → w.released ≡ true → next c w ≡ None
 unfolding next
 released_next c w e =
     ap (λ r. next_at w.original.head (is_bodiless w.original.length) r (w.modes.headers && is_empty w.asks) (list_any is_headers (out w)) (is_stopped w) (next_body c w) (next_trailers w)) e

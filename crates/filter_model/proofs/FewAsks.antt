@@ -1,5 +1,5 @@
 -- At most four asks of a direction aren't sent, and so at most eight of both.
-use Rattle.std.proofs.Common.{sym, ◌∙◌, ap, refl, arith, ltb-true, length-append}
+use Rattle.std.proofs.Common.{refl, arith, ltb-true, length-append}
 use Rattle.std.proofs.lemmas.List.{length-take-le}
 use Rattle.std.specs.Prelude.{ℕ, suc, ◌≡◌, ◌+◌, ◌-◌, ◌<◌, ◌≤◌, min, Bool, true, false, ◌&&◌, ◌||◌, List, [], ◌∷◌, ◌++◌, length, take, Option, Some, None, if◌then◌else◌, option_to_list, nat_lt, nat_le}
 use Rattle.ext_msgs.specs.declared.answer.Answer.{Answer}
@@ -10,9 +10,9 @@ use Rattle.http_model.specs.declared.types.Direction.{Direction}
 use Rattle.http_model.specs.declared.types.Direction.TheVariants.{Request, Response}
 use Rattle.filter_model.specs.Config.{CourseConfig, FilterConfig}
 use Rattle.filter_model.specs.Course.{Course, AskedPart, next, is_permitted, queue, one_asked, asked, ask_limit}
-use Rattle.filter_model.specs.Account.{ExchangeAccount, course, gathered, settled, brought, is_in, direction_of, unsent, start, is_released, is_finished}
+use Rattle.filter_model.specs.Account.{ExchangeAccount, course, gathered, settled, brought, is_in, direction_of, unsent, is_released, is_finished}
 use Rattle.filter_model.specs.Cut.{Cut, PartAnswer, part_answer}
-use Rattle.filter_model.specs.Answers.{answered, answered_by, part_answered, override_of, asked_in}
+use Rattle.filter_model.specs.Answers.{answered, answered_by, part_answered, asked_in}
 use Rattle.filter_model.specs.Right.{Call, Stepped, Took, Nexted, Failed, account}
 use Rattle.filter_model.specs.Step.{rules, step, step_if, after, after_end, still_counts, under_cut, under_departure, no_cut, cut, is_departure, is_live, accepted, with_ending, on, effect}
 use Rattle.filter_model.specs.View.{ViewEntry, Bytes, End, Lost, Answered, TooLong, Closed, NoStream, Tick, Starved, Sent, Given}

@@ -1,16 +1,16 @@
 -- Of a message no more was given than handed out, and no more handed out than there is; so what wasn't given is what was handed
 -- out and not given, and what wasn't handed out.
-use Rattle.std.proofs.Common.{inl, inr, sym, ◌∙◌, ap, refl, arith, length-drop}
-use Rattle.std.specs.Prelude.{ℕ, suc, ◌≡◌, ◌⊎◌, ◌+◌, ◌-◌, ◌≤◌, Bool, true, false, List, [], ◌∷◌, length, drop, if◌then◌else◌, ◌++◌}
+use Rattle.std.proofs.Common.{inl, inr, arith, length-drop}
+use Rattle.std.specs.Prelude.{◌≡◌, ◌+◌, ◌-◌, ◌≤◌, List, [], ◌∷◌, length, drop}
 use Rattle.ext_msgs.specs.declared.modes.PartModes.{PartModes}
 use Rattle.http_model.specs.declared.types.Direction.{Direction}
 use Rattle.http_model.specs.declared.types.Out.{Out}
 use Rattle.http_model.specs.declared.types.Out.TheVariants as part
 use Rattle.filter_model.specs.Config.{CourseConfig}
-use Rattle.filter_model.specs.Course.{Course, Changed, changed, body_of, queue, committed, asked, one_asked}
+use Rattle.filter_model.specs.Course.{body_of, queue, committed, asked, one_asked}
 use Rattle.filter_model.specs.Half.{HalfCall, Settle, Head, Bytes, End, Answer, Release, Sent, Given, HalfStep, Told, Asked, Gave, Past, Progress, Taken, after_out, becomes, called, course, parts, progress, progress_of, half_rules}
 use Rattle.filter_model.specs.HalfRight.{AreSteps, IsPast, MayTell}
-use Rattle.filter_model.proofs.HalfWritten.{Untouched, Gone, IsGone, along, body_length}
+use Rattle.filter_model.proofs.HalfWritten.{IsGone, along, body_length}
 
 more_handed : (out : Out) (t : Taken) → t.body ≤ (after_out out t).body
 more_handed (part.Head fields framing) t = omega arith

@@ -30,3 +30,6 @@ pub mod PartsGiven
 pub mod HandedFits
 pub mod ToldEntry
 pub mod FewAsks
+pub mod ToldOthers
+pub mod ToldRelease
+pub mod ToldAnswer

@@ -1,32 +1,30 @@
 -- One entry of the two sides that is no cut: what its halves are told, and what the account makes of it.
 use Rattle.std.proofs.Common.{inl, inr, sym, ◌∙◌, ap, subst, refl, arith, length-append}
-use Rattle.std.specs.Prelude.{ℕ, ◌≡◌, ◌⊎◌, ◌+◌, ◌≤◌, Bool, true, false, not, ◌&&◌, ◌||◌, List, [], ◌∷◌, ◌++◌, length, drop, Option, Some, None, if◌then◌else◌, is_none, option_map, nat_lt}
-use Rattle.ext_msgs.specs.declared.modes.BodyMode.{BodyMode}
-use Rattle.ext_msgs.specs.declared.modes.BodyMode.TheVariants.{NoAsk}
+use Rattle.std.specs.Prelude.{ℕ, ◌≡◌, ◌⊎◌, ◌+◌, ◌≤◌, Bool, true, false, ◌&&◌, ◌||◌, List, [], ◌∷◌, ◌++◌, length, drop, Option, Some, None, if◌then◌else◌, is_none, option_map, nat_lt}
 use Rattle.http_model.specs.Bytes.{IsPrefix}
 use Rattle.http_model.specs.Reader.{Extends}
-use Rattle.http_model.specs.Reads.{Original, reads}
+use Rattle.http_model.specs.Reads.{Original}
 use Rattle.http_model.specs.Wire.{head_bytes}
 use Rattle.http_model.specs.declared.types.Direction.{Direction}
 use Rattle.http_model.specs.declared.types.Direction.TheVariants.{Request, Response}
 use Rattle.http_model.specs.declared.types.Framing.{Framing}
 use Rattle.http_model.specs.declared.types.Framing.TheVariants.{NoField, Length, Chunked}
 use Rattle.filter_model.specs.Config.{CourseConfig, FilterConfig}
-use Rattle.filter_model.specs.Course.{Course, Outgoing, changed, changed_at, committed, asked, one_asked, outgoing, head_may_go, is_over, is_settled, is_buffered, mode_at, answer_to, is_headers, replaces, replacement}
+use Rattle.filter_model.specs.Course.{Course, Outgoing, changed, changed_at, committed, asked, outgoing, head_may_go, is_over, is_settled, is_buffered, mode_at, answer_to, is_headers, replacement}
 use Rattle.filter_model.specs.Outgoing.{carried}
 use Rattle.filter_model.specs.Account.{ExchangeAccount, Fate, Live, course, flow, front, gathered, brought, settled, counted_course, given_count, is_finished, is_given, is_given_at, is_released, is_to_head}
-use Rattle.filter_model.specs.Cut.{Cut, cut_rules, over_cut, processor_cut, peer_cut}
+use Rattle.filter_model.specs.Cut.{Cut, over_cut}
 use Rattle.filter_model.specs.Answers.{answered, asked_in}
 use Rattle.filter_model.specs.Right.{Call, Stepped, IsHistory, account, IsForClientAt}
-use Rattle.filter_model.specs.Step.{accepted, no_cut, under_cut, under_departure, step, step_if, with_ending, on, after, cut, cut_at, first_of, is_departure, is_live}
+use Rattle.filter_model.specs.Step.{accepted, no_cut, under_cut, under_departure, step, step_if, with_ending, on, after, cut, cut_at, is_live}
 use Rattle.filter_model.specs.View.{ViewEntry, Bytes, End, Lost, Tick}
 use Rattle.filter_model.specs.declared.calls.Side.TheVariants.{Client, Upstream}
 use Rattle.filter_model.specs.Sound.{Sound}
-use Rattle.filter_model.specs.Told.{Comes, IsNoCut, IsOfSides, IsShort, ReadWell, asks_behind, known, news, told}
-use Rattle.filter_model.proofs.Growing.{prefix_of_none, wire_none}
+use Rattle.filter_model.specs.Told.{IsNoCut, IsOfSides, IsShort, ReadWell, asks_behind, known, news, told}
+use Rattle.filter_model.proofs.Growing.{wire_none}
 use Rattle.filter_model.proofs.CourseGrows.{changed_none}
 use Rattle.filter_model.proofs.StepGrows.{Held, ReadsOn}
-use Rattle.filter_model.proofs.ReadAlong.{Read, Fits, reads_on}
+use Rattle.filter_model.proofs.ReadAlong.{Read, reads_on}
 use Rattle.filter_model.proofs.GivenRight.{fits, given_right, front_read, silent}
 use Rattle.filter_model.proofs.AtRest.{Rested, Steady, steady}
 use Rattle.filter_model.proofs.ToldReading.{reads_well, told_reading}
@@ -172,15 +170,15 @@ front_same c e a Response o h r x k = by (front_read c a (now Request e a) h x (
     by (inl e) = e
     by (inr (n, z)) = absurd (changed_some c.course Response a.response.course o k n)
 
-no_longer : (xs ys : List ℕ) → IsPrefix xs ys → length xs ≤ length ys
+pub no_longer : (xs ys : List ℕ) → IsPrefix xs ys → length xs ≤ length ys
 no_longer xs ys p = let e : length xs + length p.rest ≡ length ys = sym (length-append xs p.rest) ∙ ap length p.whole in omega (arith, e)
 
-live_is : (f : Fate) → is_live f ≡ true → f ≡ Live
+pub live_is : (f : Fate) → is_live f ≡ true → f ≡ Live
 live_is Live e = refl
 live_is _ e = absurd cc
 
 -- before its head a side got no more than what goes before it
-few_given : (c : FilterConfig) (h : List Call) → IsHistory c h → is_live (account c h).fate ≡ true → (d : Direction) → (course d (account c h)).head ≡ None
+pub few_given : (c : FilterConfig) (h : List Call) → IsHistory c h → is_live (account c h).fate ≡ true → (d : Direction) → (course d (account c h)).head ≡ None
     → length (flow d (account c h)).given ≤ length (front d (account c h))
 few_given c h y l Request k =
     let a : ExchangeAccount = account c h in
@@ -209,7 +207,7 @@ drop_over n [] h = drop_none n
 drop_over ℕ.zero (x ∷ l) h = absurd (omega (arith, h))
 drop_over (ℕ.suc n) (x ∷ l) h = drop_over n l (omega (arith, h))
 
-none_given : (d : Direction) (o : Option Outgoing) (front given : List ℕ) → length given ≤ length front → given_count d o front given ≡ 0
+pub none_given : (d : Direction) (o : Option Outgoing) (front given : List ℕ) → length given ≤ length front → given_count d o front given ≡ 0
 none_given d None front given h = refl
 none_given d (Some o) front given h =
     let e : length (front ++ head_bytes d o.fields o.framing) ≡ length front + length (head_bytes d o.fields o.framing) = length-append front (head_bytes d o.fields o.framing) in
@@ -220,13 +218,13 @@ none_given d (Some o) front given h =
     none (Length m) = refl
     none Chunked = refl
 
-head_stays : (o : Outgoing) (h x : Option Outgoing) (b : Bool) → h ≡ Some o → (if is_none h && b then x else h) ≡ Some o
+pub head_stays : (o : Outgoing) (h x : Option Outgoing) (b : Bool) → h ≡ Some o → (if is_none h && b then x else h) ≡ Some o
 head_stays o (Some y) x b e = e
 head_stays o None x b e = absurd cc
 
 -- The course of one direction
 
-rested : (d : Direction) (c : FilterConfig) (a : ExchangeAccount) → Steady c a → is_live a.fate ≡ true → Rested c.course d (course d a) (front d a) (flow d a).given
+pub rested : (d : Direction) (c : FilterConfig) (a : ExchangeAccount) → Steady c a → is_live a.fate ≡ true → Rested c.course d (course d a) (front d a) (flow d a).given
 rested Request c a s l = (s.rest (live_is a.fate l)).0
 rested Response c a s l = (s.rest (live_is a.fate l)).1
 
@@ -286,13 +284,13 @@ counted c h e d y s l x = by (course d a).head refl
         ∙ ap (given_count d (Some o) (front d a)) (reads_alone d e a s).1
         ∙ ap (λ z. given_count d z (front d a) (flow d a).given) (sym n) ∙ sym r.counted
 
-course_is : (c : FilterConfig) (d : Direction) (x : ExchangeAccount) → course d (with_ending c (asked_in c Response (asked_in c Request (settled c x))))
+pub course_is : (c : FilterConfig) (d : Direction) (x : ExchangeAccount) → course d (with_ending c (asked_in c Response (asked_in c Request (settled c x))))
     ≡ asked c.course d (counted_course d (front d x) (flow d x).given (committed c.course d (course d x)))
 unfolding with_ending asked_in settled
 course_is c Request x = refl
 course_is c Response x = refl
 
-same_count : (d : Direction) (front given : List ℕ) (v : Course) → given_count d v.head front given ≡ v.given → counted_course d front given v ≡ v
+pub same_count : (d : Direction) (front given : List ℕ) (v : Course) → given_count d v.head front given ≡ v.given → counted_course d front given v ≡ v
 same_count d front given v e = ap (λ n. record v { given = n }) e
 
 committed_given : (c : CourseConfig) (d : Direction) (w : Course) → (committed c d w).given ≡ w.given

@@ -1,5 +1,5 @@
 -- What the half of a direction is told of what its side brings, and how its course stands to that of the exchange.
-use Rattle.std.specs.Prelude.{ℕ, ◌≡◌, ◌≤◌, true, false, not, ◌&&◌, List, [], ◌∷◌, length, take, drop, map, Option, Some, None, if◌then◌else◌, nat_lt}
+use Rattle.std.specs.Prelude.{ℕ, ◌-◌, ◌≡◌, ◌≤◌, true, false, not, ◌&&◌, List, [], ◌∷◌, ◌++◌, length, take, drop, map, Option, Some, None, if◌then◌else◌, nat_lt}
 use Rattle.ext_msgs.specs.declared.lists.Field.{Field}
 use Rattle.ext_msgs.specs.declared.ask.Ask.{Ask}
 use Rattle.http_model.specs.Bytes.{is_empty}
@@ -9,10 +9,12 @@ use Rattle.http_model.specs.Reads.{Original, unread}
 use Rattle.http_model.specs.Reader.{Extends}
 use Rattle.http_model.specs.declared.types.Direction.{Direction}
 use Rattle.filter_model.specs.Config.{CourseConfig, FilterConfig}
-use Rattle.filter_model.specs.Account.{ExchangeAccount, gathered}
-use Rattle.filter_model.specs.Step.{is_live, is_departure, cut}
+use Rattle.filter_model.specs.Account.{ExchangeAccount, course, flow, front, gathered, given_count, to}
+use Rattle.filter_model.specs.Cut.{Cut}
+use Rattle.filter_model.specs.Step.{cut, is_departure, is_live, lets_pass}
 use Rattle.filter_model.specs.View.{ViewEntry}
 use Rattle.filter_model.specs.View as view
+use Rattle.filter_model.specs.declared.calls.Side.{Side}
 use Rattle.filter_model.specs.Answers.{ask_of}
 use Rattle.filter_model.specs.Course.{Course, committed, asked, body_room, due, head_may_go, is_over}
 use Rattle.filter_model.specs.Sound.{Sound}
@@ -100,3 +102,24 @@ pub record IsNoCut (c : FilterConfig) (e : ViewEntry) (a : ExchangeAccount) : Ty
 -- the head's entry brings at most one piece of the body
 abbrev pub IsShort : FilterConfig → Course → Course → Type 0
 IsShort c w now = w.original.head ≡ None → length now.original.body ≤ c.course.piece
+
+-- The other calls
+
+-- so many body bytes more were given to this side than before
+abbrev pub more_given : Side → List ℕ → ExchangeAccount → ℕ
+more_given s bytes a =
+    given_count (to s) (course (to s) a).head (front (to s) a) ((flow (to s) a).given ++ bytes) - (course (to s) a).given
+
+abbrev pub IsOfProcessor : ViewEntry → Type 0
+IsOfProcessor (view.Answered x) = Unit {0}
+IsOfProcessor view.TooLong = Unit {0}
+IsOfProcessor (view.Closed clean) = Unit {0}
+IsOfProcessor view.NoStream = Unit {0}
+IsOfProcessor (view.Tick n) = Unit {0}
+IsOfProcessor _ = ⊥
+
+-- it comes to a live exchange, and is a cut that lets the rest pass
+pub record IsLetPass (c : FilterConfig) (e : ViewEntry) (a : ExchangeAccount) (k : Cut) : Type 0 where
+  pub live : is_live a.fate ≡ true
+  pub is : cut c e (gathered e a) ≡ Some k
+  pub passes : lets_pass c k ≡ true

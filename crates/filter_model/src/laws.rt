@@ -1,27 +1,31 @@
 //! Laws of the definitions, as contracts of functions that do nothing.
 ghost use Rattle.ext_msgs.specs.Spelling.{ask};
 ghost use Rattle.ext_msgs.specs.declared.answer.Common.{Common};
-ghost use Rattle.filter_model.specs.Account.{ExchangeAccount, Live, course, gathered, given_count, is_finished};
+ghost use Rattle.ext_msgs.specs.declared.modes.PartModes.{PartModes};
+ghost use Rattle.filter_model.specs.Account.{ExchangeAccount, Live, course, from, gathered, given_count, is_finished, is_in, to, unsent};
 ghost use Rattle.filter_model.specs.Config.{CourseConfig, FilterConfig};
-ghost use Rattle.filter_model.specs.Course.{Course, Changed, asked, body_of, body_room, changed, committed, is_over, queue};
-ghost use Rattle.filter_model.specs.Cut.{AnswerKind, is_whole_and_done};
+ghost use Rattle.filter_model.specs.Course.{Course, Changed, asked, body_of, body_room, changed, committed, is_headers, is_over, out, queue};
+ghost use Rattle.filter_model.specs.Cut.{AnswerKind, Cut, is_whole_and_done};
 ghost use Rattle.filter_model.specs.Given.{data_in};
 ghost use Rattle.filter_model.specs.Grown.{Grown};
-ghost use Rattle.filter_model.specs.Half.{HalfCall, Past, Taken, MayGive, NothingDue, becomes, called, course as past_course, parts, progress, refusal};
+ghost use Rattle.filter_model.specs.Half.{HalfCall, Answer, Release, Settle, Sent as OneSent, Given as SoManyGiven, Past, Taken, MayGive, NothingDue, becomes, called, course as past_course, parts, progress, refusal, settled_modes};
 ghost use Rattle.filter_model.specs.HalfRight.{IsPast, written_parts};
 ghost use Rattle.filter_model.specs.Outgoing.{IsWire};
-ghost use Rattle.filter_model.specs.Right.{Call, Stepped, Headline, IsHistory, account, ask_given, is_done};
+ghost use Rattle.filter_model.specs.Right.{Call, Stepped, Took, Headline, IsHistory, account, ask_given, is_done};
+ghost use Rattle.filter_model.specs.Sound.{Sound};
 ghost use Rattle.filter_model.specs.Step.{is_live, step};
-ghost use Rattle.filter_model.specs.Told.{Comes, IsNoCut, IsOfSides, IsShort, ReadWell, asks_behind, known, news, told};
-ghost use Rattle.filter_model.specs.View.{ViewEntry, Lost};
+ghost use Rattle.filter_model.specs.Told.{Comes, IsLetPass, IsNoCut, IsOfProcessor, IsOfSides, IsShort, ReadWell, asks_behind, known, more_given, news, told};
+ghost use Rattle.filter_model.specs.View.{ViewEntry, Given, Lost, Sent};
 ghost use Rattle.filter_model.specs.declared.calls.Loss.{Loss};
 ghost use Rattle.filter_model.specs.declared.calls.Side.{Side};
+ghost use Rattle.filter_model.specs.declared.calls.Taken.TheVariants.{Piece};
 ghost use Rattle.http_model.specs.Bytes.{IsPrefix};
 ghost use Rattle.http_model.specs.Reads.{Original, reads};
 ghost use Rattle.http_model.specs.declared.types.Direction.{Direction};
 ghost use Rattle.http_model.specs.declared.types.Direction.TheVariants.{Request, Response};
 ghost use Rattle.http_model.specs.declared.types.Out.{Out};
-ghost use Rattle.std.specs.Prelude.{Bool, List, [], map, reverse, filter_map, true, false, ◌∷◌, ◌++◌, ◌≡◌, ◌≤◌, ◌+◌, ◌-◌, ◌⊎◌, ℕ, drop, length, take};
+ghost use Rattle.std.specs.List.{list_any};
+ghost use Rattle.std.specs.Prelude.{None, is_some, Bool, List, [], map, reverse, filter_map, true, false, ◌∷◌, ◌++◌, ◌≡◌, ◌≤◌, ◌+◌, ◌-◌, ◌⊎◌, ℕ, drop, length, take, if◌then◌else◌};
 
 /// In every history the asks that went out are the first of those made, in order.
 pub fn asks_in_order()
@@ -96,7 +100,8 @@ pub fn known_is_enough()
 /// A half that is told in turn what its side brings comes to the course that the account makes of all of it at once.
 pub fn reading_told()
     ensures told { (c : CourseConfig) (d : Direction) (w : Course) (now : Original) → Comes c d w now →
-        told c d (news c d (known w) now) (known w) ≡ known (asked c d (committed c d (record w { original = now }))) }
+        told c d (news c d (known w) now) (known w)
+        ≡ known (asked c d (committed c d (record w { original = now }))) }
     ensures well { (d : Direction) (to_head : Bool) (bytes : List ℕ) (ended : Bool) →
         ReadWell (reads d to_head bytes ended) }
 {}
@@ -141,4 +146,41 @@ pub fn few_unsent()
     ensures each { (c : FilterConfig) (h : List Call) (d : Direction) →
         length (course d (account c h)).asks ≤ (course d (account c h)).sent + 4 }
     ensures both { (c : FilterConfig) (h : List Call) → length (account c h).made ≤ (account c h).sent + 8 }
+{}
+
+/// What else the halves are told: that an ask was sent, which its own direction is told; that body bytes were given,
+/// which the direction to that side is told; and a release, where a cut lets the rest pass.
+pub fn calls_told()
+    ensures sent { (c : FilterConfig) (h : List Call) → IsHistory c (Stepped Sent ∷ h) → IsNoCut c Sent (account c h)
+        → (d : Direction) → known (course d (account c (Stepped Sent ∷ h)))
+        ≡ told c.course d (if is_in d (unsent (account c h)) then OneSent ∷ [] else [])
+        (known (course d (account c h))) }
+    ensures given { (c : FilterConfig) (h : List Call) (s : Side) (bytes : List ℕ) →
+        IsHistory c (Took s (Piece bytes) ∷ h) → IsNoCut c (Given s bytes) (account c h)
+        → known (course (to s) (account c (Took s (Piece bytes) ∷ h)))
+        ≡ told c.course (to s) (SoManyGiven (more_given s bytes (account c h)) ∷ [])
+        (known (course (to s) (account c h))) }
+    ensures other { (c : FilterConfig) (h : List Call) (s : Side) (bytes : List ℕ) →
+        IsHistory c (Took s (Piece bytes) ∷ h) → IsNoCut c (Given s bytes) (account c h)
+        → known (course (from s) (account c (Took s (Piece bytes) ∷ h))) ≡ known (course (from s) (account c h)) }
+    ensures release { (c : FilterConfig) (h : List Call) (e : ViewEntry) (k : Cut) → IsHistory c (Stepped e ∷ h)
+        → IsOfProcessor e → IsLetPass c e (account c h) k → (d : Direction)
+        → known (course d (account c (Stepped e ∷ h)))
+        ≡ told c.course d (Release ∷ []) (known (course d (account c h))) }
+{}
+
+/// Other modes change nothing by themselves, while the headers ask is out or before the head. So an answer with a mode
+/// override is told in two calls, the modes and then the answer, and comes to what both make at once.
+pub fn settles_first()
+    ensures waits { (c : CourseConfig) (d : Direction) (w : Course) (modes : PartModes) → Sound c w → w.released ≡ false
+        → is_some w.original.head ≡ true → list_any is_headers (out w) ≡ true
+        → asked c d (committed c d (called (Settle modes) w)) ≡ called (Settle modes) w }
+    ensures early { (c : CourseConfig) (d : Direction) (w : Course) (modes : PartModes) → w.original.head ≡ None
+        → asked c d (committed c d (called (Settle modes) w)) ≡ called (Settle modes) w }
+    ensures at_once { (c : CourseConfig) (d : Direction) (w : Course) (modes : PartModes) (a : Common) → Sound c w
+        → w.released ≡ false → is_some w.original.head ≡ true → list_any is_headers (out w) ≡ true
+        → told c d (Settle modes ∷ Answer a ∷ []) w ≡ asked c d (committed c d (record w {
+          modes = settled_modes w.original.head w.modes modes;
+          answers = w.answers ++ a ∷ [];
+        })) }
 {}
