@@ -27,6 +27,7 @@ pub mod ToldHead
 pub mod ToldReading
 pub mod DataGiven
 pub mod PartsGiven
+pub mod AllGiven
 pub mod HandedFits
 pub mod ToldEntry
 pub mod FewAsks

@@ -6,6 +6,7 @@ pub mod Sound
 pub mod Half
 pub mod HalfRight
 pub mod Given
+pub mod AllGiven
 pub mod View
 pub mod Account
 pub mod Cut

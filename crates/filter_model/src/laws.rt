@@ -2,14 +2,15 @@
 ghost use Rattle.ext_msgs.specs.Spelling.{ask};
 ghost use Rattle.ext_msgs.specs.declared.answer.Common.{Common};
 ghost use Rattle.ext_msgs.specs.declared.modes.PartModes.{PartModes};
-ghost use Rattle.filter_model.specs.Account.{ExchangeAccount, Live, course, from, gathered, given_count, is_finished, is_in, to, unsent};
+ghost use Rattle.filter_model.specs.Account.{ExchangeAccount, Live, course, from, gathered, given_count, is_finished, is_given_at, is_in, to, unsent};
+ghost use Rattle.filter_model.specs.AllGiven.{is_all_handed, is_nothing};
 ghost use Rattle.filter_model.specs.Config.{CourseConfig, FilterConfig};
 ghost use Rattle.filter_model.specs.Course.{Course, Changed, asked, body_of, body_room, changed, committed, is_headers, is_over, out, queue};
 ghost use Rattle.filter_model.specs.Cut.{AnswerKind, Cut, is_whole_and_done};
 ghost use Rattle.filter_model.specs.Given.{data_in};
 ghost use Rattle.filter_model.specs.Grown.{Grown};
 ghost use Rattle.filter_model.specs.Half.{HalfCall, Answer, Release, Settle, Sent as OneSent, Given as SoManyGiven, Past, Taken, MayGive, NothingDue, becomes, called, course as past_course, parts, progress, refusal, settled_modes};
-ghost use Rattle.filter_model.specs.HalfRight.{IsPast, written_parts};
+ghost use Rattle.filter_model.specs.HalfRight.{IsPast, framing_in, has_trailers, part_bytes, written_parts};
 ghost use Rattle.filter_model.specs.Outgoing.{IsWire};
 ghost use Rattle.filter_model.specs.Right.{Call, Stepped, Took, Headline, IsHistory, account, ask_given, is_done};
 ghost use Rattle.filter_model.specs.Sound.{Sound};
@@ -25,7 +26,7 @@ ghost use Rattle.http_model.specs.declared.types.Direction.{Direction};
 ghost use Rattle.http_model.specs.declared.types.Direction.TheVariants.{Request, Response};
 ghost use Rattle.http_model.specs.declared.types.Out.{Out};
 ghost use Rattle.std.specs.List.{list_any};
-ghost use Rattle.std.specs.Prelude.{None, is_some, Bool, List, [], map, reverse, filter_map, true, false, ◌∷◌, ◌++◌, ◌≡◌, ◌≤◌, ◌+◌, ◌-◌, ◌⊎◌, ℕ, drop, length, take, if◌then◌else◌};
+ghost use Rattle.std.specs.Prelude.{None, is_some, Bool, List, [], map, reverse, filter_map, true, false, ◌&&◌, ◌∷◌, ◌++◌, ◌≡◌, ◌<◌, ◌≤◌, ◌+◌, ◌-◌, ◌⊎◌, ℕ, drop, length, nat_le, take, if◌then◌else◌};
 
 /// In every history the asks that went out are the first of those made, in order.
 pub fn asks_in_order()
@@ -112,6 +113,19 @@ pub fn given_is_counted()
     ensures { (p : Past) → IsPast p → (front : List ℕ) (n : ℕ) →
         given_count p.direction (becomes p).head front (take n (front ++ written_parts p.direction (parts p.steps)))
         ≡ data_in p.direction (parts p.steps) (n - length front) }
+{}
+
+/// A side has all of its message once all of it was handed out and every byte of that was given; and what is handed out
+/// before has bytes. So a writer knows it by the parts alone.
+pub fn all_is_given()
+    ensures all { (p : Past) → IsPast p → (front : List ℕ) (n : ℕ) →
+        is_given_at p.direction (becomes p).head (becomes p) front
+        (take n (front ++ written_parts p.direction (parts p.steps)))
+        ≡ (is_all_handed (becomes p) (progress p).taken
+        && nat_le (length (front ++ written_parts p.direction (parts p.steps))) n) }
+    ensures more { (p : Past) → IsPast p → (max : ℕ) (out : Out) → MayGive max (becomes p) (progress p).taken out
+        → is_nothing out ≡ false → is_all_handed (becomes p) (progress p).taken ≡ false
+        → 0 < length (part_bytes p.direction (framing_in (parts p.steps)) (has_trailers (parts p.steps)) out) }
 {}
 
 /// In a past of one direction no more of the body was given than handed out, and no more handed out than there is. So
