@@ -36,7 +36,7 @@ use Rattle.filter_model.proofs.ToldOthers.{untouched}
 abbrev pub Ends : FilterConfig → ExchangeAccount → ExchangeAccount
 Ends c y = with_ending c (asked_in c Response (asked_in c Request (settled c y)))
 
-either_false : (x y : Bool) → x ≡ false → y ≡ false → (x || y) ≡ false
+pub either_false : (x y : Bool) → x ≡ false → y ≡ false → (x || y) ≡ false
 either_false true y e f = absurd cc
 either_false false y e f = f
 

@@ -36,3 +36,4 @@ pub mod ToldAnswer
 pub mod NeverOver
 pub mod StillAtRest
 pub mod AnswerTold
+pub mod NothingTold

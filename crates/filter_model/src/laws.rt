@@ -2,9 +2,10 @@
 ghost use Rattle.ext_msgs.specs.Spelling.{ask};
 ghost use Rattle.ext_msgs.specs.declared.answer.Answer.{Answer as Answering};
 ghost use Rattle.ext_msgs.specs.declared.answer.Common.{Common};
+ghost use Rattle.ext_msgs.specs.declared.answer.Span.{Span};
 ghost use Rattle.ext_msgs.specs.declared.modes.PartModes.{PartModes};
-ghost use Rattle.filter_model.specs.Account.{ExchangeAccount, Live, course, flow, from, front, gathered, given_count, is_finished, is_in, is_out_in, to, unsent};
-ghost use Rattle.filter_model.specs.Answers.{override_of};
+ghost use Rattle.filter_model.specs.Account.{ExchangeAccount, Live, course, flow, from, front, gathered, given_count, is_finished, is_in, is_out_in, is_released, to, unsent};
+ghost use Rattle.filter_model.specs.Answers.{extended_by, override_of};
 ghost use Rattle.filter_model.specs.Config.{CourseConfig, FilterConfig};
 ghost use Rattle.filter_model.specs.Course.{Course, Changed, asked, body_of, body_room, changed, committed, due, is_headers, is_over, out, queue};
 ghost use Rattle.filter_model.specs.Cut.{AnswerKind, Cut, PartAnswer, is_whole_and_done, peer_cut, processor_cut};
@@ -17,8 +18,8 @@ ghost use Rattle.filter_model.specs.Right.{Call, Stepped, Took, Headline, IsHist
 ghost use Rattle.filter_model.specs.Sound.{Sound};
 ghost use Rattle.filter_model.specs.Step.{is_live, step};
 ghost use Rattle.filter_model.specs.Told.{Comes, IsLetPass, IsNoCut, IsOfProcessor, IsOfSides, IsShort, ReadWell, asks_behind, known, more_given, news, told};
-ghost use Rattle.filter_model.specs.ToldMore.{IsAnswerTo, ReadsNothing, across, other_calls, own_calls};
-ghost use Rattle.filter_model.specs.View.{ViewEntry, Answered, Given, Lost, Sent};
+ghost use Rattle.filter_model.specs.ToldMore.{IsAnswerTo, IsOfNoSide, ReadsNothing, across, other_calls, own_calls};
+ghost use Rattle.filter_model.specs.View.{ViewEntry, Answered, Given, Lost, Sent, Starved};
 ghost use Rattle.filter_model.specs.declared.calls.Loss.{Loss};
 ghost use Rattle.filter_model.specs.declared.calls.Side.{Side};
 ghost use Rattle.filter_model.specs.declared.calls.Taken.TheVariants.{Piece};
@@ -266,4 +267,36 @@ pub fn answer_told()
         → ((flow (across p.direction) (step c (Answered (Some x)) a)).deadline
         ≡ (if is_out_in a (across p.direction) then (flow (across p.direction) a).deadline else a.now + c.timeout_ms))
         × ((flow (across p.direction) (step c (Answered (Some x)) a)).extended ≡ (flow (across p.direction) a).extended) }
+{}
+
+/// An entry of the processor, of time, or want of memory that is no cut tells the halves nothing once the rest passes or
+/// all was given, and so does an answer with a timeout override before: both courses stay, and no ask follows. A timer
+/// starts where no ask is out; the override starts it anew, once for each ask. Want of memory is no cut only when all was
+/// given.
+pub fn nothing_told()
+    ensures idle { (c : FilterConfig) (h : List Call) (e : ViewEntry) → IsHistory c (Stepped e ∷ h) → IsOfNoSide e
+        → IsNoCut c e (account c h) → (is_released (account c h) ≡ true) ⊎ (is_finished c (account c h) ≡ true)
+        → (d : Direction) → course d (account c (Stepped e ∷ h)) ≡ course d (account c h) }
+    ensures idle_made { (c : FilterConfig) (h : List Call) (e : ViewEntry) → IsHistory c (Stepped e ∷ h) → IsOfNoSide e
+        → IsNoCut c e (account c h) → (is_released (account c h) ≡ true) ⊎ (is_finished c (account c h) ≡ true)
+        → (account c (Stepped e ∷ h)).made ≡ (account c h).made }
+    ensures idle_timer { (c : FilterConfig) (e : ViewEntry) (a : ExchangeAccount) → IsOfNoSide e → IsNoCut c e a
+        → (is_released a ≡ true) ⊎ (is_finished c a ≡ true) → (d : Direction)
+        → ((flow d (step c e a)).deadline
+        ≡ (if is_out_in a d then (flow d a).deadline else (gathered e a).now + c.timeout_ms))
+        × ((flow d (step c e a)).extended ≡ (flow d a).extended) }
+    ensures timed { (c : FilterConfig) (h : List Call) (x : Answering) (t : Span) →
+        IsHistory c (Stepped (Answered (Some x)) ∷ h) → IsNoCut c (Answered (Some x)) (account c h)
+        → x.timeout ≡ Some t → is_released (account c h) ≡ false → is_finished c (account c h) ≡ false
+        → (d : Direction) → course d (account c (Stepped (Answered (Some x)) ∷ h)) ≡ course d (account c h) }
+    ensures timed_made { (c : FilterConfig) (h : List Call) (x : Answering) (t : Span) →
+        IsHistory c (Stepped (Answered (Some x)) ∷ h) → IsNoCut c (Answered (Some x)) (account c h)
+        → x.timeout ≡ Some t → is_released (account c h) ≡ false → is_finished c (account c h) ≡ false
+        → (account c (Stepped (Answered (Some x)) ∷ h)).made ≡ (account c h).made }
+    ensures timed_timer { (c : FilterConfig) (x : Answering) (t : Span) (a : ExchangeAccount) →
+        IsNoCut c (Answered (Some x)) a → x.timeout ≡ Some t → is_released a ≡ false → is_finished c a ≡ false
+        → (d : Direction) → ((flow d (step c (Answered (Some x)) a)).deadline
+        ≡ (if is_out_in a d then (flow d (extended_by c t a)).deadline else a.now + c.timeout_ms))
+        × ((flow d (step c (Answered (Some x)) a)).extended ≡ (flow d (extended_by c t a)).extended) }
+    ensures starved { (c : FilterConfig) (a : ExchangeAccount) → IsNoCut c Starved a → is_finished c a ≡ true }
 {}
