@@ -109,7 +109,7 @@ both_asked c a h = (
 clash : true ≡ false → ⊥
 clash e = cc
 
-passes : (b : Bool) (f : Fate) (gone : Bool) (o : Option (List ℕ)) → (if b then f else if gone then Aborted else by_reply o) ≡ Live → b ≡ true
+pub passes : (b : Bool) (f : Fate) (gone : Bool) (o : Option (List ℕ)) → (if b then f else if gone then Aborted else by_reply o) ≡ Live → b ≡ true
 passes true f gone o e = refl
 passes false f true o e = absurd cc
 passes false f false o e = absurd (clash (sym (ap is_live e) ∙ by_reply_ends o))

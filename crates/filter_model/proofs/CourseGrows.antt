@@ -168,7 +168,7 @@ once_out kind (p ∷ asks) (a ∷ answers) e f = by (λ g. once_out kind asks an
     by more false g = ap (λ b. cond b (Some (p, a)) (find (λ (q : AskedPart × Common). kind q.0) (zip asks answers))) (sym g)
         ∙ more (ap (λ b. if b then not (list_any kind asks) else once kind asks) g ∙ e)
 
-if_buffered : (b : Bool) (m : BodyMode) → is_buffered (if b then NoAsk else m) ≡ true → is_buffered m ≡ true
+pub if_buffered : (b : Bool) (m : BodyMode) → is_buffered (if b then NoAsk else m) ≡ true → is_buffered m ≡ true
 if_buffered true m e = absurd cc
 if_buffered false m e = e
 

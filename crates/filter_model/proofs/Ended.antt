@@ -148,7 +148,7 @@ settles w f h a e = by (is_some w.original.head) w.released w.modes.headers (is_
     by true false true false i j k e = answered is_headers w.asks w.answers a (f.first (sym j) (sym k))
 
 -- in BUFFERED a body that isn't there any more to be asked was asked
-buffered_asked : (bodiless s : Bool) (m : BodyMode) (x z : Option AskedPart) (whole asked : Bool) (p : AskedPart) → bodiless ≡ false → s ≡ false → is_buffered m ≡ true → whole ≡ true
+pub buffered_asked : (bodiless s : Bool) (m : BodyMode) (x z : Option AskedPart) (whole asked : Bool) (p : AskedPart) → bodiless ≡ false → s ≡ false → is_buffered m ≡ true → whole ≡ true
     → body_at bodiless s m x (if whole && not asked then Some p else None) z ≡ None → asked ≡ true
 buffered_asked true s m x z whole asked p i j k l e = absurd cc
 buffered_asked false true m x z whole asked p i j k l e = absurd cc
@@ -159,7 +159,7 @@ buffered_asked false false Buffered x z false asked p i j k l e = absurd cc
 buffered_asked false false Buffered x z true true p i j k l e = refl
 buffered_asked false false Buffered x z true false p i j k l e = absurd cc
 
-not_buffered : (r : Bool) (x : Option Common) (m : BodyMode) → replaces x ≡ true → is_buffered (mode_at r x m) ≡ true → ⊥
+pub not_buffered : (r : Bool) (x : Option Common) (m : BodyMode) → replaces x ≡ true → is_buffered (mode_at r x m) ≡ true → ⊥
 not_buffered true x m e f = true_is_not_false (sym f)
 not_buffered false None m e f = true_is_not_false (sym e)
 not_buffered false (Some a) m e f = true_is_not_false (sym f ∙ ap (λ b. is_buffered (if b then NoAsk else m)) e)

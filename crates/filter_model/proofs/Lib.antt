@@ -34,3 +34,7 @@ pub mod FewAsks
 pub mod ToldOthers
 pub mod ToldRelease
 pub mod ToldAnswer
+pub mod NeverOver
+pub mod StillAtRest
+pub mod AnswerTold
+pub mod NothingTold

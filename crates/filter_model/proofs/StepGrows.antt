@@ -192,7 +192,7 @@ no_head_yet c w s r t = by w.head refl
     by None e = sym e
     by (Some h) e = absurd (clash (sym t ∙ s.no_headers h (sym e) r))
 
-headers_out : (w : Course) (q : AskedPart) (more : List AskedPart) → out w ≡ q ∷ more → is_headers q ≡ true → list_any is_headers (out w) ≡ true
+pub headers_out : (w : Course) (q : AskedPart) (more : List AskedPart) → out w ≡ q ∷ more → is_headers q ≡ true → list_any is_headers (out w) ≡ true
 headers_out w q more o e = ap (list_any is_headers) o ∙ ap (λ b. b || list_any is_headers more) e
 
 -- the direction of the answer, with new modes for what is behind the headers

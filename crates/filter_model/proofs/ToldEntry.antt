@@ -106,19 +106,19 @@ not_finished Response c g n =
     and_false true = refl
     and_false false = refl
 
-none_over : (finished released : Bool) (processor over peer : Option Cut) → finished ≡ false → released ≡ false → cut_at finished released processor over peer ≡ None → over ≡ None
+pub none_over : (finished released : Bool) (processor over peer : Option Cut) → finished ≡ false → released ≡ false → cut_at finished released processor over peer ≡ None → over ≡ None
 none_over true r p o q f e k = absurd cc
 none_over false true p o q f e k = absurd cc
 none_over false false (Some x) o q f e k = absurd cc
 none_over false false None (Some x) q f e k = absurd cc
 none_over false false None None q f e k = refl
 
-both_within : (x y : Bool) (k l : Cut) → (if x then Some k else if y then Some l else None) ≡ None → (x ≡ false) × (y ≡ false)
+pub both_within : (x y : Bool) (k l : Cut) → (if x then Some k else if y then Some l else None) ≡ None → (x ≡ false) × (y ≡ false)
 both_within true y k l e = absurd cc
 both_within false true k l e = absurd cc
 both_within false false k l e = (refl, refl)
 
-released_within : (c : CourseConfig) (w : Course) → w.released ≡ true → is_over c w ≡ false
+pub released_within : (c : CourseConfig) (w : Course) → w.released ≡ true → is_over c w ≡ false
 released_within c w e = ap (λ r. is_settled w && is_buffered (mode_at r (answer_to is_headers w) w.modes.body) && nat_lt c.buffer_limit (length w.original.body)) e ∙ none (is_settled w) (nat_lt c.buffer_limit (length w.original.body))
   where
     none : (x y : Bool) → (x && false && y) ≡ false
@@ -228,7 +228,7 @@ pub rested : (d : Direction) (c : FilterConfig) (a : ExchangeAccount) → Steady
 rested Request c a s l = (s.rest (live_is a.fate l)).0
 rested Response c a s l = (s.rest (live_is a.fate l)).1
 
-sound_in : (d : Direction) (c : FilterConfig) (a : ExchangeAccount) → Held c a → Sound c.course (course d a)
+pub sound_in : (d : Direction) (c : FilterConfig) (a : ExchangeAccount) → Held c a → Sound c.course (course d a)
 sound_in Request c a h = h.request
 sound_in Response c a h = h.response
 
@@ -327,7 +327,7 @@ entry_told c h e y s n z d q =
     }))
 
 -- the request's asks go first
-made_is : (c : FilterConfig) (x : ExchangeAccount) → let a : ExchangeAccount = with_ending c (asked_in c Response (asked_in c Request (settled c x))) in
+pub made_is : (c : FilterConfig) (x : ExchangeAccount) → let a : ExchangeAccount = with_ending c (asked_in c Response (asked_in c Request (settled c x))) in
     a.made ≡ (x.made ++ asks_behind Request x.request.course a.request.course) ++ asks_behind Response x.response.course a.response.course
 unfolding with_ending asked_in settled committed
 made_is c x = refl

@@ -121,7 +121,7 @@ given_counted c d a bytes r =
     ∙ ap (λ n. asked c.course d (known (record w { given = n }))) e
     ∙ ap (asked c.course d) (sym (committed_none c.course d (known (record w { given = w.given + (m - w.given) })) r.chosen))
 
-untouched : (c : FilterConfig) (d : Direction) (a : ExchangeAccount) → Rested c.course d (course d a) (front d a) (flow d a).given
+pub untouched : (c : FilterConfig) (d : Direction) (a : ExchangeAccount) → Rested c.course d (course d a) (front d a) (flow d a).given
     → known (asked c.course d (counted_course d (front d a) (flow d a).given (committed c.course d (course d a)))) ≡ known (course d a)
 untouched c d a r =
     let w : Course = course d a in

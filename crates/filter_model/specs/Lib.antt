@@ -13,5 +13,6 @@ pub mod Cut
 pub mod Answers
 pub mod Step
 pub mod Told
+pub mod ToldMore
 pub mod Right
 pub mod Held

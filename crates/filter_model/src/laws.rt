@@ -1,12 +1,15 @@
 //! Laws of the definitions, as contracts of functions that do nothing.
 ghost use Rattle.ext_msgs.specs.Spelling.{ask};
+ghost use Rattle.ext_msgs.specs.declared.answer.Answer.{Answer as Answering};
 ghost use Rattle.ext_msgs.specs.declared.answer.Common.{Common};
+ghost use Rattle.ext_msgs.specs.declared.answer.Span.{Span};
 ghost use Rattle.ext_msgs.specs.declared.modes.PartModes.{PartModes};
-ghost use Rattle.filter_model.specs.Account.{ExchangeAccount, Live, course, from, gathered, given_count, is_finished, is_given_at, is_in, to, unsent};
+ghost use Rattle.filter_model.specs.Account.{ExchangeAccount, Live, course, from, gathered, given_count, is_finished, is_given_at, is_in, to, unsent, flow, front, is_out_in, is_released};
 ghost use Rattle.filter_model.specs.AllGiven.{is_all_handed, is_nothing};
+ghost use Rattle.filter_model.specs.Answers.{extended_by, override_of};
 ghost use Rattle.filter_model.specs.Config.{CourseConfig, FilterConfig};
-ghost use Rattle.filter_model.specs.Course.{Course, Changed, asked, body_of, body_room, changed, committed, is_headers, is_over, out, queue};
-ghost use Rattle.filter_model.specs.Cut.{AnswerKind, Cut, is_whole_and_done};
+ghost use Rattle.filter_model.specs.Course.{Course, Changed, asked, body_of, body_room, changed, committed, due, is_headers, is_over, out, queue};
+ghost use Rattle.filter_model.specs.Cut.{AnswerKind, Cut, PartAnswer, is_whole_and_done, peer_cut, processor_cut};
 ghost use Rattle.filter_model.specs.Given.{data_in};
 ghost use Rattle.filter_model.specs.Grown.{Grown};
 ghost use Rattle.filter_model.specs.Half.{HalfCall, Answer, Release, Settle, Sent as OneSent, Given as SoManyGiven, Past, Taken, MayGive, NothingDue, becomes, called, course as past_course, parts, progress, refusal, settled_modes};
@@ -16,7 +19,8 @@ ghost use Rattle.filter_model.specs.Right.{Call, Stepped, Took, Headline, IsHist
 ghost use Rattle.filter_model.specs.Sound.{Sound};
 ghost use Rattle.filter_model.specs.Step.{is_live, step};
 ghost use Rattle.filter_model.specs.Told.{Comes, IsLetPass, IsNoCut, IsOfProcessor, IsOfSides, IsShort, ReadWell, asks_behind, known, more_given, news, told};
-ghost use Rattle.filter_model.specs.View.{ViewEntry, Given, Lost, Sent};
+ghost use Rattle.filter_model.specs.ToldMore.{IsAnswerTo, IsOfNoSide, ReadsNothing, across, other_calls, own_calls};
+ghost use Rattle.filter_model.specs.View.{ViewEntry, Answered, Given, Lost, Sent, Starved};
 ghost use Rattle.filter_model.specs.declared.calls.Loss.{Loss};
 ghost use Rattle.filter_model.specs.declared.calls.Side.{Side};
 ghost use Rattle.filter_model.specs.declared.calls.Taken.TheVariants.{Piece};
@@ -26,7 +30,7 @@ ghost use Rattle.http_model.specs.declared.types.Direction.{Direction};
 ghost use Rattle.http_model.specs.declared.types.Direction.TheVariants.{Request, Response};
 ghost use Rattle.http_model.specs.declared.types.Out.{Out};
 ghost use Rattle.std.specs.List.{list_any};
-ghost use Rattle.std.specs.Prelude.{None, is_some, Bool, List, [], map, reverse, filter_map, true, false, ◌&&◌, ◌∷◌, ◌++◌, ◌≡◌, ◌<◌, ◌≤◌, ◌+◌, ◌-◌, ◌⊎◌, ℕ, drop, length, nat_le, take, if◌then◌else◌};
+ghost use Rattle.std.specs.Prelude.{None, is_some, Bool, List, [], map, reverse, filter_map, true, false, ◌&&◌, ◌∷◌, ◌++◌, ◌≡◌, ◌<◌, ◌≤◌, ◌+◌, ◌-◌, ◌⊎◌, ℕ, drop, length, nat_le, take, if◌then◌else◌, Some};
 
 /// In every history the asks that went out are the first of those made, in order.
 pub fn asks_in_order()
@@ -197,4 +201,116 @@ pub fn settles_first()
           modes = settled_modes w.original.head w.modes modes;
           answers = w.answers ++ a ∷ [];
         })) }
+{}
+
+/// While an exchange lives no body is past its limit: the entry that would take it there is the cut. So an entry that
+/// brings nothing of a message, and no answer, is a cut only where it says so itself: bytes that were given and an ask
+/// that was sent never are.
+pub fn never_over()
+    ensures within { (c : FilterConfig) (h : List Call) → IsHistory c h → is_live (account c h).fate ≡ true
+        → (d : Direction) → is_over c.course (course d (account c h)) ≡ false }
+    ensures none { (c : FilterConfig) (h : List Call) (e : ViewEntry) → IsHistory c h
+        → is_live (account c h).fate ≡ true → ReadsNothing e
+        → processor_cut c (gathered e (account c h)) e ≡ None → peer_cut c (gathered e (account c h)) e ≡ None
+        → IsNoCut c e (account c h) }
+    ensures given { (c : FilterConfig) (h : List Call) (s : Side) (bytes : List ℕ) → IsHistory c h
+        → is_live (account c h).fate ≡ true → IsNoCut c (Given s bytes) (account c h) }
+    ensures sent { (c : FilterConfig) (h : List Call) → IsHistory c h → is_live (account c h).fate ≡ true
+        → IsNoCut c Sent (account c h) }
+{}
+
+/// A half that was told of a call asks whether its body is past its limit: heads that are chosen and asks that are made
+/// change nothing of the answer.
+pub fn over_told()
+    ensures { (c : CourseConfig) (d : Direction) (w : Course) → length w.answers ≤ length w.asks →
+        is_over c (asked c d (committed c d w)) ≡ is_over c w }
+{}
+
+/// While an exchange lives each of its accounts is at rest: heads that can go are chosen, no ask is due, and the body
+/// bytes that were given are counted. Its courses are sound whatever came, and the rest passes both ways at once.
+pub fn at_rest()
+    ensures head { (c : FilterConfig) (h : List Call) → IsHistory c h → is_live (account c h).fate ≡ true
+        → (d : Direction) → committed c.course d (course d (account c h)) ≡ course d (account c h) }
+    ensures asks { (c : FilterConfig) (h : List Call) → IsHistory c h → is_live (account c h).fate ≡ true
+        → (d : Direction) → due c.course d (course d (account c h)) ≡ [] }
+    ensures given { (c : FilterConfig) (h : List Call) → IsHistory c h → is_live (account c h).fate ≡ true
+        → (d : Direction) → (course d (account c h)).given
+        ≡ given_count d (course d (account c h)).head (front d (account c h)) (flow d (account c h)).given }
+    ensures sound { (c : FilterConfig) (h : List Call) → IsHistory c h → (d : Direction) →
+        Sound c.course (course d (account c h)) }
+    ensures released { (c : FilterConfig) (h : List Call) → IsHistory c h →
+        (account c h).response.course.released ≡ (account c h).request.course.released }
+{}
+
+/// An answer to a part that is no cut, while the exchange waits for it: its direction is told the modes that it brings,
+/// while the headers ask is out, and then the answer, which isn't refused; the response is told the modes that an answer
+/// to the request's headers brings for it, before its head. The asks that follow are those of the halves, the request's
+/// first. The timer of its direction starts anew, and that of the other one starts where no ask was out.
+pub fn answer_told()
+    ensures own { (c : FilterConfig) (h : List Call) (x : Answering) (p : PartAnswer) →
+        IsHistory c (Stepped (Answered (Some x)) ∷ h) → IsNoCut c (Answered (Some x)) (account c h)
+        → IsAnswerTo c x p (account c h)
+        → known (course p.direction (account c (Stepped (Answered (Some x)) ∷ h)))
+        ≡ told c.course p.direction (own_calls p.direction (override_of c p.kind x.modes) p.common)
+        (known (course p.direction (account c h))) }
+    ensures other { (c : FilterConfig) (h : List Call) (x : Answering) (p : PartAnswer) →
+        IsHistory c (Stepped (Answered (Some x)) ∷ h) → IsNoCut c (Answered (Some x)) (account c h)
+        → IsAnswerTo c x p (account c h)
+        → known (course (across p.direction) (account c (Stepped (Answered (Some x)) ∷ h)))
+        ≡ told c.course (across p.direction) (other_calls p.direction (override_of c p.kind x.modes))
+        (known (course (across p.direction) (account c h))) }
+    ensures made { (c : FilterConfig) (x : Answering) (p : PartAnswer) (a : ExchangeAccount) →
+        IsNoCut c (Answered (Some x)) a → IsAnswerTo c x p a → (step c (Answered (Some x)) a).made
+        ≡ (a.made ++ asks_behind Request (course Request a) (course Request (step c (Answered (Some x)) a)))
+        ++ asks_behind Response (course Response a) (course Response (step c (Answered (Some x)) a)) }
+    ensures accepted { (c : FilterConfig) (x : Answering) (p : PartAnswer) (a : ExchangeAccount) →
+        IsNoCut c (Answered (Some x)) a → IsAnswerTo c x p a
+        → refusal c.course p.direction (course p.direction a) p.kind p.common ≡ None }
+    ensures settles { (c : FilterConfig) (x : Answering) (p : PartAnswer) (a : ExchangeAccount) →
+        IsNoCut c (Answered (Some x)) a → IsAnswerTo c x p a → is_some (override_of c p.kind x.modes) ≡ true
+        → list_any is_headers (out (course p.direction a)) ≡ true }
+    ensures early { (c : FilterConfig) (h : List Call) (x : Answering) (p : PartAnswer) → IsHistory c h
+        → IsNoCut c (Answered (Some x)) (account c h) → IsAnswerTo c x p (account c h) → p.direction ≡ Request
+        → is_some (override_of c p.kind x.modes) ≡ true → (course Response (account c h)).original.head ≡ None }
+    ensures timer { (c : FilterConfig) (x : Answering) (p : PartAnswer) (a : ExchangeAccount) →
+        IsNoCut c (Answered (Some x)) a → IsAnswerTo c x p a
+        → ((flow p.direction (step c (Answered (Some x)) a)).deadline ≡ a.now + c.timeout_ms)
+        × ((flow p.direction (step c (Answered (Some x)) a)).extended ≡ false) }
+    ensures other_timer { (c : FilterConfig) (x : Answering) (p : PartAnswer) (a : ExchangeAccount) →
+        IsNoCut c (Answered (Some x)) a → IsAnswerTo c x p a
+        → ((flow (across p.direction) (step c (Answered (Some x)) a)).deadline
+        ≡ (if is_out_in a (across p.direction) then (flow (across p.direction) a).deadline else a.now + c.timeout_ms))
+        × ((flow (across p.direction) (step c (Answered (Some x)) a)).extended ≡ (flow (across p.direction) a).extended) }
+{}
+
+/// An entry of the processor, of time, or want of memory that is no cut tells the halves nothing once the rest passes or
+/// all was given, and so does an answer with a timeout override before: both courses stay, and no ask follows. A timer
+/// starts where no ask is out; the override starts it anew, once for each ask. Want of memory is no cut only when all was
+/// given.
+pub fn nothing_told()
+    ensures idle { (c : FilterConfig) (h : List Call) (e : ViewEntry) → IsHistory c (Stepped e ∷ h) → IsOfNoSide e
+        → IsNoCut c e (account c h) → (is_released (account c h) ≡ true) ⊎ (is_finished c (account c h) ≡ true)
+        → (d : Direction) → course d (account c (Stepped e ∷ h)) ≡ course d (account c h) }
+    ensures idle_made { (c : FilterConfig) (h : List Call) (e : ViewEntry) → IsHistory c (Stepped e ∷ h) → IsOfNoSide e
+        → IsNoCut c e (account c h) → (is_released (account c h) ≡ true) ⊎ (is_finished c (account c h) ≡ true)
+        → (account c (Stepped e ∷ h)).made ≡ (account c h).made }
+    ensures idle_timer { (c : FilterConfig) (e : ViewEntry) (a : ExchangeAccount) → IsOfNoSide e → IsNoCut c e a
+        → (is_released a ≡ true) ⊎ (is_finished c a ≡ true) → (d : Direction)
+        → ((flow d (step c e a)).deadline
+        ≡ (if is_out_in a d then (flow d a).deadline else (gathered e a).now + c.timeout_ms))
+        × ((flow d (step c e a)).extended ≡ (flow d a).extended) }
+    ensures timed { (c : FilterConfig) (h : List Call) (x : Answering) (t : Span) →
+        IsHistory c (Stepped (Answered (Some x)) ∷ h) → IsNoCut c (Answered (Some x)) (account c h)
+        → x.timeout ≡ Some t → is_released (account c h) ≡ false → is_finished c (account c h) ≡ false
+        → (d : Direction) → course d (account c (Stepped (Answered (Some x)) ∷ h)) ≡ course d (account c h) }
+    ensures timed_made { (c : FilterConfig) (h : List Call) (x : Answering) (t : Span) →
+        IsHistory c (Stepped (Answered (Some x)) ∷ h) → IsNoCut c (Answered (Some x)) (account c h)
+        → x.timeout ≡ Some t → is_released (account c h) ≡ false → is_finished c (account c h) ≡ false
+        → (account c (Stepped (Answered (Some x)) ∷ h)).made ≡ (account c h).made }
+    ensures timed_timer { (c : FilterConfig) (x : Answering) (t : Span) (a : ExchangeAccount) →
+        IsNoCut c (Answered (Some x)) a → x.timeout ≡ Some t → is_released a ≡ false → is_finished c a ≡ false
+        → (d : Direction) → ((flow d (step c (Answered (Some x)) a)).deadline
+        ≡ (if is_out_in a d then (flow d (extended_by c t a)).deadline else a.now + c.timeout_ms))
+        × ((flow d (step c (Answered (Some x)) a)).extended ≡ (flow d (extended_by c t a)).extended) }
+    ensures starved { (c : FilterConfig) (a : ExchangeAccount) → IsNoCut c Starved a → is_finished c a ≡ true }
 {}

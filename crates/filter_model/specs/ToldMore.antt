@@ -1,0 +1,60 @@
+-- What the halves are told of an answer, and of which entries they are told nothing.
+use Rattle.std.specs.Prelude.{◌≡◌, false, List, [], ◌∷◌, Option, Some, None}
+use Rattle.ext_msgs.specs.declared.answer.Answer.{Answer as Answering}
+use Rattle.ext_msgs.specs.declared.answer.Common.{Common}
+use Rattle.ext_msgs.specs.declared.modes.PartModes.{PartModes}
+use Rattle.http_model.specs.declared.types.Direction.{Direction}
+use Rattle.http_model.specs.declared.types.Direction.TheVariants.{Request, Response}
+use Rattle.filter_model.specs.Config.{FilterConfig}
+use Rattle.filter_model.specs.Account.{ExchangeAccount, is_finished, is_released}
+use Rattle.filter_model.specs.Cut.{PartAnswer, part_answer}
+use Rattle.filter_model.specs.Half.{HalfCall, Answer, Settle}
+use Rattle.filter_model.specs.View.{ViewEntry, Bytes, End, Lost, Answered, TooLong, Closed, NoStream, Tick, Starved, Sent, Given}
+
+-- Answers
+
+abbrev pub across : Direction → Direction
+across Request = Response
+across Response = Request
+
+-- a direction's modes of an override
+abbrev pub modes_for : Direction → PartModes × PartModes → PartModes
+modes_for Request m = m.0
+modes_for Response m = m.1
+
+-- the direction of the answer: its modes, where it brings some, and then the answer itself
+abbrev pub own_calls : Direction → Option (PartModes × PartModes) → Common → List HalfCall
+own_calls d None a = Answer a ∷ []
+own_calls d (Some m) a = Settle (modes_for d m) ∷ Answer a ∷ []
+
+-- the other direction than that of the answer: an answer to the request's headers brings the response's modes too
+abbrev pub other_calls : Direction → Option (PartModes × PartModes) → List HalfCall
+other_calls Request (Some m) = Settle m.1 ∷ []
+other_calls Request None = []
+other_calls Response m = []
+
+-- an answer to a part, of an exchange in which it counts
+pub record IsAnswerTo (c : FilterConfig) (x : Answering) (p : PartAnswer) (a : ExchangeAccount) : Type 0 where
+  pub untimed : x.timeout ≡ None
+  pub part : part_answer x.member ≡ Some p
+  pub unreleased : is_released a ≡ false
+  pub unfinished : is_finished c a ≡ false
+
+-- Entries that tell nothing
+
+-- an entry that brings nothing of a message, and no answer
+abbrev pub ReadsNothing : ViewEntry → Type 0
+ReadsNothing (Bytes s bytes) = ⊥
+ReadsNothing (End s) = ⊥
+ReadsNothing (Answered x) = ⊥
+ReadsNothing _ = Unit {0}
+
+-- an entry of the processor or of time, or want of memory
+abbrev pub IsOfNoSide : ViewEntry → Type 0
+IsOfNoSide (Answered x) = Unit {0}
+IsOfNoSide TooLong = Unit {0}
+IsOfNoSide (Closed clean) = Unit {0}
+IsOfNoSide NoStream = Unit {0}
+IsOfNoSide (Tick n) = Unit {0}
+IsOfNoSide Starved = Unit {0}
+IsOfNoSide _ = ⊥
