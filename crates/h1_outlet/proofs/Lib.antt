@@ -1,0 +1,4 @@
+pub mod PartBytes
+pub mod Refilled
+pub mod Giving
+pub mod Putting
