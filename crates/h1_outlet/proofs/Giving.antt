@@ -1,7 +1,7 @@
 -- What is given next, and what is left behind it.
 use Rattle.std.proofs.Common.{refl, sym, ◌∙◌, ap, subst, arith, length-append}
 use Rattle.std.proofs.lemmas.List.{drop-append-le, drop-drop, length-drop, length-take-le, take-append-le}
-use Rattle.std.specs.Prelude.{ℕ, zero, suc, ◌≡◌, ◌+◌, ◌-◌, ◌<◌, ◌≤◌, min, List, [], ◌∷◌, ◌++◌, length, take, drop, Some, Result, Ok, Err, OnErr}
+use Rattle.std.specs.Prelude.{ℕ, zero, suc, ◌≡◌, ◌+◌, ◌-◌, ◌<◌, ◌≤◌, min, List, ◌++◌, length, take, drop, Some, Result, Ok, Err, OnErr}
 use Rattle.http_model.specs.Wire.{interim}
 use Rattle.filter_model.specs.Given.{data_at}
 use Rattle.h1_outlet.specs.Parts.{unwritten}

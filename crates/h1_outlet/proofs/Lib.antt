@@ -2,3 +2,4 @@ pub mod PartBytes
 pub mod Refilled
 pub mod Giving
 pub mod Putting
+pub mod FieldSizes

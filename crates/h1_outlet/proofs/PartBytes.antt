@@ -1,8 +1,8 @@
 -- Which parts have bytes, how many, and where the data of a chunk stands among them.
 use Rattle.std.proofs.Common.{refl, sym, ◌∙◌, ap, arith, append-nil, length-append}
-use Rattle.std.specs.Prelude.{ℕ, ◌≡◌, ◌+◌, ◌-◌, ◌<◌, ◌≤◌, min, Bool, true, false, not, ◌&&◌, List, [], ◌∷◌, ◌++◌, length, codes, Option, Some, None, if◌then◌else◌}
+use Rattle.std.specs.Prelude.{ℕ, ◌≡◌, ◌+◌, ◌-◌, ◌<◌, ◌≤◌, min, Bool, true, false, List, [], ◌∷◌, ◌++◌, length, codes, Option, Some, None}
 use Rattle.ext_msgs.specs.declared.lists.Field.{Field}
-use Rattle.http_model.specs.Bytes.{crlf, is_empty}
+use Rattle.http_model.specs.Bytes.{crlf}
 use Rattle.http_model.specs.Wire.{head_bytes, hex, chunk_bytes, last_bytes, field_lines}
 use Rattle.http_model.specs.declared.types.Direction.{Direction}
 use Rattle.http_model.specs.declared.types.Framing.{Framing}
@@ -10,10 +10,10 @@ use Rattle.http_model.specs.declared.types.Framing.TheVariants.{NoField, Length,
 use Rattle.http_model.specs.declared.types.Out.{Out}
 use Rattle.http_model.specs.declared.types.Out.TheVariants as part
 use Rattle.filter_model.specs.Given.{data_at}
-use Rattle.h1_outlet.specs.Parts.{unwritten, has_bytes, is_chunked, written_way}
+use Rattle.h1_outlet.specs.Parts.{unwritten, has_bytes, written_way}
 use Rattle.h1_outlet.specs.Ways.{Way}
 
-clash : true ≡ false → ⊥
+pub clash : true ≡ false → ⊥
 clash e = cc
 
 some_behind : (xs ys : List ℕ) → 0 < length ys → 0 < length (xs ++ ys)

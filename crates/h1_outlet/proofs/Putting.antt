@@ -1,8 +1,8 @@
 -- What an outlet stands for once it was handed something more; and when all was given.
 use Rattle.std.proofs.Common.{refl, sym, ◌∙◌, ap, subst, arith, append-nil, append_assoc, length-append}
 use Rattle.std.proofs.lemmas.Bool.{eq-eqb, eqb-true}
-use Rattle.std.proofs.lemmas.List.{drop-append-le, drop_at, length-drop}
-use Rattle.std.specs.Prelude.{ℕ, ◌≡◌, ◌==◌, ◌+◌, ◌-◌, ◌<◌, ◌≤◌, min, Bool, true, false, not, ◌&&◌, List, [], ◌∷◌, ◌++◌, length, drop, Option, Some, None}
+use Rattle.std.proofs.lemmas.List.{drop_at, length-drop}
+use Rattle.std.specs.Prelude.{ℕ, ◌≡◌, ◌==◌, ◌+◌, ◌-◌, ◌<◌, min, Bool, true, false, not, ◌&&◌, List, [], ◌∷◌, ◌++◌, length, drop, Option, Some, None}
 use Rattle.http_model.specs.Bytes.{is_empty}
 use Rattle.http_model.specs.Wire.{interim}
 use Rattle.http_model.specs.declared.types.Direction.{Direction}
@@ -10,17 +10,14 @@ use Rattle.http_model.specs.declared.types.Framing.{Framing}
 use Rattle.http_model.specs.declared.types.Out.{Out}
 use Rattle.http_model.specs.declared.types.Out.TheVariants as part
 use Rattle.filter_model.specs.HalfRight.{framing_in, has_trailers, part_bytes, written_parts}
-use Rattle.filter_model.specs.Given.{data_at, data_in}
+use Rattle.filter_model.specs.Given.{data_at}
 use Rattle.h1_outlet.specs.Parts.{framing_with, trailers_with, unwritten, has_bytes}
-use Rattle.h1_outlet.specs.Outlets.{Flowed, all, body_in, left_of, body_of, holding, is_idle, readied, with_part}
-use Rattle.h1_outlet.specs.Stands.{StandsFor, MayPut, IsPlaced, fresh}
+use Rattle.h1_outlet.specs.Outlets.{Flowed, all, body_in, left_of, body_of, holding, is_idle, readied, with_interim, with_part}
+use Rattle.h1_outlet.specs.Stands.{StandsFor, MayOwe, MayPut, IsPlaced, fresh}
 use Rattle.h1_outlet.specs.Ways.{Way, plain}
 use Rattle.h1_outlet.specs.declared.outlet.Outlet.{Outlet}
-use Rattle.h1_outlet.proofs.PartBytes.{WayFits, head_data, no_bytes, no_data, some_bytes, zero_data}
-use Rattle.h1_outlet.proofs.Refilled.{empty_list, interim_some, none_owed, none_left, ready_none, ready_stands}
-
-clash : true ≡ false → ⊥
-clash e = cc
+use Rattle.h1_outlet.proofs.PartBytes.{WayFits, clash, head_data, no_bytes, no_data, some_bytes, zero_data}
+use Rattle.h1_outlet.proofs.Refilled.{empty_list, interim_some, none_owed, none_left, ready_none, ready_stands, some_length}
 
 -- Nothing waits
 
@@ -34,9 +31,6 @@ pub record Idle (x : Outlet) : Type 0 where
 first_empty : (xs ys : List ℕ) → xs ++ ys ≡ [] → (xs ≡ []) × (ys ≡ [])
 first_empty [] ys e = (refl, e)
 first_empty (x ∷ xs) ys e = absurd cc
-
-some_length : (l : List ℕ) → 0 < length l → l ≡ [] → ⊥
-some_length l h e = let k : length l ≡ 0 = ap length e in omega arith
 
 not_true : (b : Bool) → (b ≡ true → ⊥) → b ≡ false
 not_true true f = absurd (f refl)
@@ -271,3 +265,34 @@ fresh_stands x d way framing trailers going owed next reply = record {
 
     fits : WayFits x.going
     fits = subst WayFits (sym going) (omega arith)
+
+-- The interim response
+
+-- an outlet that was handed nothing
+owed_fresh : (d : Direction) (x : Outlet) → StandsFor (fresh d) x → StandsFor (with_interim (fresh d)) (record x { interim = true })
+owed_fresh d x s = record {
+  direction = s.direction;
+  framing = s.framing;
+  trailers = s.trailers;
+  within = omega arith;
+  left =
+      ap (λ l. l ++ interim true ++ unwritten x.direction x.framing x.trailers x.next ++ x.reply) i.going
+      ∙ ap (λ l. interim true ++ l ++ x.reply) (no_bytes x.direction x.framing x.trailers x.next i.next) ∙ ap (λ l. interim true ++ [] ++ l) i.reply;
+  reply = s.reply;
+  fits = s.fits;
+  body = λ n. plus (none_left x.going n i.going s.fits) (no_data x.framing x.trailers x.next (n - length (x.going.left ++ interim true)) i.next);
+}
+  where
+    i : Idle x
+    i = idle_by x s.left
+
+    plus : {a b : ℕ} → a ≡ 0 → b ≡ 0 → 0 ≡ 0 + (a + b)
+    plus e f = omega (arith, e, f)
+
+pub owed_stands : (f : Flowed) (x : Outlet) → StandsFor f x → MayOwe f → StandsFor (with_interim f) (record x { interim = true })
+owed_stands f x s m = subst (λ g. StandsFor (with_interim g) (record x { interim = true })) (sym same) (owed_fresh f.direction x (subst (λ g. StandsFor g x) same s))
+  where
+    same : f ≡ fresh f.direction
+    same =
+        ap (λ l. record f { front = l }) m.front ∙ ap (λ l. record f { front = []; parts = l }) m.parts
+        ∙ ap (λ l. record f { front = []; parts = []; reply = l }) m.reply ∙ ap (λ n. record f { front = []; parts = []; reply = []; given = n }) m.given

@@ -1,6 +1,6 @@
 -- Where nothing written is left, what goes next is written, and the bytes that are left stay the same.
-use Rattle.std.proofs.Common.{refl, sym, ◌∙◌, ap, subst, arith, append-nil, append_assoc, length-append}
-use Rattle.std.specs.Prelude.{ℕ, ◌≡◌, ◌+◌, ◌-◌, ◌<◌, ◌≤◌, min, Bool, true, false, List, [], ◌∷◌, ◌++◌, length}
+use Rattle.std.proofs.Common.{refl, sym, ◌∙◌, ap, arith, append-nil}
+use Rattle.std.specs.Prelude.{ℕ, ◌≡◌, ◌+◌, ◌-◌, ◌<◌, min, Bool, true, false, List, [], ◌∷◌, ◌++◌, length}
 use Rattle.http_model.specs.Bytes.{is_empty}
 use Rattle.http_model.specs.Wire.{interim}
 use Rattle.http_model.specs.declared.types.Out.TheVariants as part
@@ -8,12 +8,9 @@ use Rattle.filter_model.specs.Given.{data_at}
 use Rattle.h1_outlet.specs.Parts.{unwritten, has_bytes, written_way}
 use Rattle.h1_outlet.specs.Outlets.{Flowed, body_in, left_of, body_of, refilled, refilled_with, ready_at, readied}
 use Rattle.h1_outlet.specs.Stands.{StandsFor}
-use Rattle.h1_outlet.specs.Ways.{Way, plain}
+use Rattle.h1_outlet.specs.Ways.{Way}
 use Rattle.h1_outlet.specs.declared.outlet.Outlet.{Outlet}
-use Rattle.h1_outlet.proofs.PartBytes.{WayFits, data_written, no_bytes, no_data, some_bytes, written_fits, written_left}
-
-clash : true ≡ false → ⊥
-clash e = cc
+use Rattle.h1_outlet.proofs.PartBytes.{WayFits, clash, data_written, no_bytes, no_data, some_bytes, written_fits, written_left}
 
 pub none_owed : interim false ≡ []
 unfolding interim
@@ -153,7 +150,7 @@ ready_stands f x s = by (is_empty x.going.left) refl
 
 -- where none is written then, none is left
 
-some_length : (l : List ℕ) → 0 < length l → l ≡ [] → ⊥
+pub some_length : (l : List ℕ) → 0 < length l → l ≡ [] → ⊥
 some_length l h e = let k : length l ≡ 0 = ap length e in omega arith
 
 refilled_none : (x : Outlet) → (refilled x).going.left ≡ [] → left_of (refilled x) ≡ []

@@ -1,5 +1,5 @@
 -- What an outlet was handed and gave, and what it still has.
-use Rattle.std.specs.Prelude.{ℕ, ◌+◌, ◌-◌, min, Bool, true, false, not, ◌&&◌, List, [], ◌∷◌, ◌++◌, length, drop, Option, Some, None, if◌then◌else◌}
+use Rattle.std.specs.Prelude.{ℕ, ◌+◌, ◌-◌, min, Bool, true, false, not, ◌&&◌, List, [], ◌∷◌, ◌++◌, length, Option, Some, None}
 use Rattle.http_model.specs.Bytes.{is_empty}
 use Rattle.http_model.specs.Wire.{interim}
 use Rattle.http_model.specs.declared.types.Direction.{Direction}
@@ -7,7 +7,7 @@ use Rattle.http_model.specs.declared.types.Out.{Out}
 use Rattle.http_model.specs.declared.types.Out.TheVariants as part
 use Rattle.filter_model.specs.HalfRight.{written_parts}
 use Rattle.filter_model.specs.Given.{data_in, data_at}
-use Rattle.h1_outlet.specs.Parts.{framing_with, trailers_with, unwritten, has_bytes, written_way}
+use Rattle.h1_outlet.specs.Parts.{framing_with, trailers_with, part_size, unwritten, has_bytes, written_way}
 use Rattle.h1_outlet.specs.Ways.{plain}
 use Rattle.h1_outlet.specs.declared.going.Gave.{Gave}
 use Rattle.h1_outlet.specs.declared.outlet.Outlet.{Outlet}
@@ -50,15 +50,25 @@ left_of x = x.going.left ++ interim x.interim ++ unwritten x.direction x.framing
 
 -- how many body bytes the first n of them have
 abbrev pub body_of : Outlet → ℕ → ℕ
-body_of x n = min (n - x.going.skip) x.going.body + data_at x.framing (n - length (x.going.left ++ interim x.interim)) x.next
+body_of x n =
+    min (n - x.going.skip) x.going.body
+    + data_at x.framing (n - length (x.going.left ++ interim x.interim)) x.next
 
 abbrev pub is_idle : Outlet → Bool
-is_idle x = is_empty x.going.left && not x.interim && not (has_bytes x.framing x.trailers x.next) && is_empty x.reply
+is_idle x =
+    is_empty x.going.left && not x.interim && not (has_bytes x.framing x.trailers x.next) && is_empty x.reply
+
+-- so much is kept that wasn't given
+abbrev pub held : Outlet → ℕ
+held x = length x.going.left + part_size x.next + length x.reply
 
 -- the bytes that are given next are the interim response, the part that was put last, or the reply
 abbrev pub refilled_with : Bool → Bool → Outlet → Outlet
 refilled_with true some x = record x { going = plain (interim true); interim = false }
-refilled_with false true x = record x { going = written_way x.direction x.framing x.trailers x.next; next = part.Nothing }
+refilled_with false true x = record x {
+  going = written_way x.direction x.framing x.trailers x.next;
+  next = part.Nothing;
+}
 refilled_with false false x = record x { going = plain x.reply; next = part.Nothing; reply = [] }
 
 abbrev pub refilled : Outlet → Outlet

@@ -1,13 +1,14 @@
 -- A part of a message before its bytes are written.
-use Rattle.std.specs.Prelude.{ℕ, Bool, true, false, not, ◌&&◌, List, [], ◌∷◌, ◌++◌, length, Option, Some, None, is_some}
+use Rattle.std.specs.Prelude.{ℕ, Bool, true, false, not, ◌&&◌, List, [], ◌++◌, length, Option, Some, is_some}
 use Rattle.http_model.specs.Bytes.{crlf, is_empty}
 use Rattle.http_model.specs.Wire.{head_bytes, hex, chunk_bytes}
 use Rattle.http_model.specs.declared.types.Direction.{Direction}
 use Rattle.http_model.specs.declared.types.Framing.{Framing}
-use Rattle.http_model.specs.declared.types.Framing.TheVariants.{NoField, Length, Chunked}
+use Rattle.http_model.specs.declared.types.Framing.TheVariants.{Chunked}
 use Rattle.http_model.specs.declared.types.Out.{Out}
 use Rattle.http_model.specs.declared.types.Out.TheVariants as part
 use Rattle.filter_model.specs.HalfRight.{part_bytes}
+use Rattle.filter_model.specs.Held.{field_bytes}
 use Rattle.h1_outlet.specs.Ways.{Way, plain}
 
 -- what is known of a message once this part was put too
@@ -51,3 +52,11 @@ data_way _ bytes = record { left = bytes; skip = 0; body = length bytes }
 abbrev pub written_way : Direction → Option Framing → Bool → Out → Way
 written_way d framing trailers (part.Data bytes) = data_way framing bytes
 written_way d framing trailers out = plain (unwritten d framing trailers out)
+
+-- how much it takes while it isn't written
+abbrev pub part_size : Out → ℕ
+part_size (part.Head fields own) = field_bytes fields
+part_size (part.Data bytes) = length bytes
+part_size (part.Trailers fields) = field_bytes fields
+part_size part.End = 0
+part_size part.Nothing = 0

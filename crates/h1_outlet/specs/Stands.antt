@@ -1,5 +1,5 @@
 -- What an outlet stands for, what may be put, and what is given.
-use Rattle.std.specs.Prelude.{ℕ, ◌+◌, ◌-◌, ◌≡◌, ◌≤◌, List, [], length, take, drop, Option, Some, None}
+use Rattle.std.specs.Prelude.{ℕ, ◌+◌, ◌-◌, ◌≡◌, ◌≤◌, [], length, take, drop, Option, Some, None}
 use Rattle.http_model.specs.declared.types.Direction.{Direction}
 use Rattle.http_model.specs.declared.types.Out.{Out}
 use Rattle.http_model.specs.declared.types.Out.TheVariants as part
@@ -20,6 +20,13 @@ pub record StandsFor (f : Flowed) (x : Outlet) : Type 0 where
 
 abbrev pub fresh : Direction → Flowed
 fresh d = record { direction = d; front = []; parts = []; reply = []; given = 0 }
+
+-- nothing was handed
+pub record MayOwe (f : Flowed) : Type 0 where
+  pub front : f.front ≡ []
+  pub parts : f.parts ≡ []
+  pub reply : f.reply ≡ []
+  pub given : f.given ≡ 0
 
 -- a head comes once
 abbrev pub IsPlaced : Flowed → Out → Type 0

@@ -6,6 +6,7 @@ ghost use Rattle.h1_outlet.specs.Ways.{first_of, gone_on};
 use pb_wire::Blob;
 use std::alloc::{AllocError, Global};
 use std::marker::Model;
+use std::mem;
 
 /// Bytes that go to the side now.
 #[derive(Drop)]
@@ -58,12 +59,19 @@ impl Going {
         self.bytes.len() - self.at
     }
 
-    // The next bytes, at most `max`.
+    // The next bytes, at most `max`. A whole part that fits isn't copied.
     pub(crate) fn give(&mut self, alloc: Global, max: u32) -> Result<Gave, AllocError>
         ensures gives { IfOk result (λ gave. gave ≡ first_of (min (length self.old.left) max) self.old) }
         ensures left { OnOk result (self.new ≡ gone_on (min (length self.old.left) max) self.old) }
         ensures unchanged { OnErr result (self.new ≡ self.old) }
     {
+        if self.at == 0 && self.bytes.len() <= max as usize {
+            let bytes = mem::replace(&mut self.bytes, Blob::new(alloc));
+            let body = self.body as u32;
+            self.skip = 0;
+            self.body = 0;
+            return Ok(Gave { bytes, body });
+        }
         let n = self.len().min(max as usize);
         let (_, left) = self.bytes.bytes().split_at(self.at);
         let (first, _) = left.split_at(n);

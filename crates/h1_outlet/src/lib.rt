@@ -5,6 +5,7 @@
 mod going;
 mod outlet;
 mod parts;
+mod sizes;
 
 pub use going::Gave;
 pub use outlet::Outlet;

@@ -1,13 +1,12 @@
 //! What goes out to one side.
 
-ghost use Rattle.std.specs.Prelude.{◌≡◌, ◌≤◌, ◌==◌, [], length, true, false, IfOk, OnOk, OnErr};
-ghost use Rattle.http_model.specs.Bytes.{is_empty as is_none};
-ghost use Rattle.h1_outlet.specs.Outlets.{Flowed, all, with_interim, with_part, with_reply, after_give, is_idle, refilled, readied, holding};
-ghost use Rattle.h1_outlet.specs.Stands.{StandsFor, MayPut, IsGiven, fresh};
-ghost use Rattle.h1_outlet.specs.Ways.{first_of, gone_on, plain};
+ghost use Rattle.std.specs.Prelude.{◌≡◌, ◌≤◌, ◌==◌, ◌-◌, min, [], length, IfOk, OnOk, OnErr};
+ghost use Rattle.h1_outlet.specs.Outlets.{Flowed, all, body_in, with_interim, with_part, with_reply, after_give, held, is_idle, refilled, readied, holding};
+ghost use Rattle.h1_outlet.specs.Stands.{StandsFor, MayOwe, MayPut, IsGiven, fresh};
 
 use crate::going::{Gave, Going};
 use crate::parts::{framing_with, has_bytes, trailers_with, write, write_interim};
+use crate::sizes::part_size;
 use http_model::{Direction, Framing, Out};
 use pb_wire::Blob;
 use std::alloc::{AllocError, Global};
@@ -51,15 +50,14 @@ impl Outlet {
         }
     }
 
-    /// The interim response goes before all else.
+    /// The interim response goes before all else: nothing was handed before.
     pub fn owe_interim(&mut self)
-        ensures { StandsFor (fresh self.old.direction) self.old
-            → StandsFor (with_interim (fresh self.old.direction)) self.new }
+        ensures { (f : Flowed) → StandsFor f self.old → MayOwe f → StandsFor (with_interim f) self.new }
     {
         self.interim = true;
     }
 
-    /// One part more, once all before it was given.
+    /// One part more, once all before it was given. It is kept as it came.
     pub fn put(&mut self, out: Out)
         ensures { (f : Flowed) → StandsFor f self.old → MayPut f out → StandsFor (with_part out f) self.new }
     {
@@ -96,6 +94,25 @@ impl Outlet {
             && !self.interim
             && !has_bytes(self.framing, self.trailers, &self.next)
             && self.reply.is_empty()
+    }
+
+    /// How many bytes are kept that weren't given, a part that isn't written yet by its fields or its body bytes. So
+    /// body bytes that wait are never more.
+    pub fn held(&self) -> u64
+        ensures exact { result ≡ min (held self.now) 18_446_744_073_709_551_615 }
+        ensures body { (f : Flowed) → StandsFor f self.now →
+            min (body_in f (length (all f)) - body_in f f.given) 18_446_744_073_709_551_615 ≤ result }
+    {
+        let kept = self.kept();
+        kept
+    }
+
+    fn kept(&self) -> u64
+        ensures { result ≡ min (held self.now) 18_446_744_073_709_551_615 }
+    {
+        (self.going.len() as u64)
+            .saturating_add(part_size(&self.next))
+            .saturating_add(self.reply.len() as u64)
     }
 
     /// The next bytes, from 1 to `max`, or none where all was given. Out of memory nothing is given.
@@ -141,7 +158,7 @@ impl Outlet {
                 self.direction,
                 self.framing,
                 self.trailers,
-                &self.next,
+                &mut self.next,
             )?;
             self.going = going;
         } else {

@@ -1,6 +1,6 @@
 //! A part of a message, and its bytes.
 
-ghost use Rattle.std.specs.Prelude.{◌≡◌, ◌++◌, ◌∷◌, ◌<◌, Some, true, [], length, IfOk};
+ghost use Rattle.std.specs.Prelude.{◌≡◌, ◌++◌, ◌∷◌, ◌<◌, Some, true, [], length, IfOk, OnErr};
 ghost use Rattle.http_model.specs.Wire.{head_bytes, interim, last_bytes as last};
 ghost use Rattle.http_model.specs.declared.types.Framing.TheVariants.{Chunked};
 ghost use Rattle.http_model.specs.declared.types.Out.TheVariants as part;
@@ -11,8 +11,9 @@ use crate::going::Going;
 use ext_msgs::FieldList;
 use h1_write::{chunk_bytes, last_bytes, request_bytes, response_bytes};
 use http_model::{Direction, Framing, Out};
-use pb_wire::{Blob, Duplicate};
+use pb_wire::Blob;
 use std::alloc::{AllocError, Global};
+use std::mem;
 
 // What is known of the framing once this part was put too.
 pub(crate) fn framing_with(framing: Option<Framing>, out: &Out) -> Option<Framing>
@@ -91,16 +92,23 @@ fn write_chunk(alloc: Global, bytes: &Blob) -> Result<Going, AllocError>
     Ok(Going::of(chunk, skip, bytes.len()))
 }
 
-fn write_data(alloc: Global, framing: Option<Framing>, bytes: &Blob) -> Result<Going, AllocError>
-    requires { 0 < length bytes.now }
-    ensures { IfOk result (λ way. way ≡ data_way framing bytes.now) }
+// Without chunks the bytes go as they are.
+fn write_data(
+    alloc: Global,
+    framing: Option<Framing>,
+    bytes: &mut Blob,
+) -> Result<Going, AllocError>
+    requires { 0 < length bytes.old }
+    ensures way { IfOk result (λ way. way ≡ data_way framing bytes.old) }
+    ensures unchanged { OnErr result (bytes.new ≡ bytes.old) }
 {
     if is_chunked(framing) {
         let way = write_chunk(alloc, bytes)?;
         return Ok(way);
     }
-    let copy = bytes.copy()?;
-    Ok(Going::of(copy, 0, bytes.len()))
+    let size = bytes.len();
+    let whole = mem::replace(bytes, Blob::new(alloc));
+    Ok(Going::of(whole, 0, size))
 }
 
 fn write_last(alloc: Global, trailers: &FieldList) -> Result<Going, AllocError>
@@ -110,16 +118,17 @@ fn write_last(alloc: Global, trailers: &FieldList) -> Result<Going, AllocError>
     Ok(Going::of(bytes, 0, 0))
 }
 
-// The bytes of the part that was put last, where it has some.
+// The bytes of the part that was put last, where it has some. They may leave the part.
 pub(crate) fn write(
     alloc: Global,
     direction: Direction,
     framing: Option<Framing>,
     trailers: bool,
-    out: &Out,
+    out: &mut Out,
 ) -> Result<Going, AllocError>
-    requires { has_bytes framing trailers out.now ≡ true }
-    ensures { IfOk result (λ way. way ≡ written_way direction framing trailers out.now) }
+    requires { has_bytes framing trailers out.old ≡ true }
+    ensures way { IfOk result (λ way. way ≡ written_way direction framing trailers out.old) }
+    ensures unchanged { OnErr result (out.new ≡ out.old) }
 {
     match out {
         Out::Head(fields, own) => write_head(alloc, direction, fields, *own),

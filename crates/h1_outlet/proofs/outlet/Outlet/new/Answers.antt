@@ -1,5 +1,4 @@
 use Rattle.std.proofs.Common.{refl, ◌∙◌, ap}
-use Rattle.std.specs.Prelude.{[]}
 use Rattle.h1_outlet.specs.Ways.{plain}
 use Rattle.h1_outlet.proofs.Putting.{fresh_stands}
 use Rattle.h1_outlet.proofs.outlet.Outlet.new.Goals as goal
