@@ -13,16 +13,16 @@ use Rattle.http_model.specs.declared.types.Framing.TheVariants.{NoField, Length,
 use Rattle.http_model.specs.declared.types.Out.{Out}
 use Rattle.http_model.specs.declared.types.Out.TheVariants as part
 use Rattle.http_model.proofs.BodiesGrow.{before_both, onward}
-use Rattle.filter_model.specs.Course.{Changed, Outgoing, changed, body_of}
+use Rattle.filter_model.specs.Course.{Changed, Outgoing, body_of}
 use Rattle.filter_model.specs.Account.{is_all_given, is_given_at}
 use Rattle.filter_model.specs.AllGiven.{is_all_handed, is_nothing, is_tail_at, is_tail_handed}
 use Rattle.filter_model.specs.Outgoing.{IsWire, InSize, behind_last, body_bytes, end_bytes, is_all}
-use Rattle.filter_model.specs.Half.{Past, Taken, MayGive, becomes, course, parts, progress, trailers_left}
+use Rattle.filter_model.specs.Half.{Past, Taken, MayGive, becomes, course, parts, progress}
 use Rattle.filter_model.specs.HalfRight.{IsPast, framing_in, has_trailers, part_behind, part_bytes, written_parts}
-use Rattle.filter_model.proofs.Chunks.{behind_body, behind_end, behind_more}
+use Rattle.filter_model.proofs.Chunks.{behind_body, behind_end}
 use Rattle.filter_model.proofs.CourseGrows.{and_first, and_second}
 use Rattle.filter_model.proofs.GivenAll.{given_whole, bytes_same}
-use Rattle.filter_model.proofs.HalfWritten.{Untouched, IsDone, Gone, IsGone, PieceNext, PassNext, Shown, joined, left_of, next_is, shown_ends, ShownEnds, along, is_first_of_wire}
+use Rattle.filter_model.proofs.HalfWritten.{Untouched, Gone, IsGone, PieceNext, PassNext, joined, left_of, next_is, shown_ends, ShownEnds, along, is_first_of_wire}
 
 clash : true ≡ false → ⊥
 clash e = cc
@@ -330,3 +330,11 @@ more_bytes p y max out k s n = by (along p.config p.direction p.modes p.steps y)
         subst (λ o. 0 < length (part_bytes p.direction o (has_trailers (parts p.steps)) out)) (sym g.framing)
         (subst (λ b. 0 < length (part_behind g.out.framing b out)) (sym g.trailers)
         (gone_more p.direction (becomes p) (progress p).taken (parts p.steps) max out (shown_ends p.config p.direction (course p)) g k s (λ e. clash (sym e ∙ n))))
+
+-- before the head
+pub no_framing : (p : Past) → IsPast p → (progress p).taken.head ≡ false → framing_in (parts p.steps) ≡ None
+no_framing p y e = by (along p.config p.direction p.modes p.steps y).1
+  where
+    by : IsGone p.direction (becomes p) (progress p).taken (parts p.steps) → framing_in (parts p.steps) ≡ None
+    by (inl (u, w)) = u.framing
+    by (inr g) = absurd (clash (sym g.head ∙ e))

@@ -1,5 +1,5 @@
 -- When all that has bytes of a message was handed out: once those bytes were given, a side has all of it.
-use Rattle.std.specs.Prelude.{ℕ, ◌==◌, Bool, true, false, ◌&&◌, ◌||◌, length, Option, Some, None}
+use Rattle.std.specs.Prelude.{◌==◌, Bool, true, false, ◌&&◌, ◌||◌, length, Option, Some, None}
 use Rattle.http_model.specs.declared.types.Framing.{Framing}
 use Rattle.http_model.specs.declared.types.Framing.TheVariants.{NoField, Length, Chunked}
 use Rattle.http_model.specs.declared.types.Out.{Out}

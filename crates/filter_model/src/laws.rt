@@ -120,7 +120,7 @@ pub fn given_is_counted()
 {}
 
 /// A side has all of its message once all of it was handed out and every byte of that was given; and what is handed out
-/// before has bytes. So a writer knows it by the parts alone.
+/// before has bytes. So a writer knows it by the parts alone. Before the head no part has a framing.
 pub fn all_is_given()
     ensures all { (p : Past) → IsPast p → (front : List ℕ) (n : ℕ) →
         is_given_at p.direction (becomes p).head (becomes p) front
@@ -130,6 +130,7 @@ pub fn all_is_given()
     ensures more { (p : Past) → IsPast p → (max : ℕ) (out : Out) → MayGive max (becomes p) (progress p).taken out
         → is_nothing out ≡ false → is_all_handed (becomes p) (progress p).taken ≡ false
         → 0 < length (part_bytes p.direction (framing_in (parts p.steps)) (has_trailers (parts p.steps)) out) }
+    ensures unframed { (p : Past) → IsPast p → (progress p).taken.head ≡ false → framing_in (parts p.steps) ≡ None }
 {}
 
 /// In a past of one direction no more of the body was given than handed out, and no more handed out than there is. So

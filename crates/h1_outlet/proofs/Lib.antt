@@ -1,0 +1,5 @@
+pub mod PartBytes
+pub mod Refilled
+pub mod Giving
+pub mod Putting
+pub mod FieldSizes

@@ -1,0 +1,4 @@
+pub mod Ways
+pub mod Parts
+pub mod Outlets
+pub mod Stands
