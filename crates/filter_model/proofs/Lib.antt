@@ -38,3 +38,6 @@ pub mod NeverOver
 pub mod StillAtRest
 pub mod AnswerTold
 pub mod NothingTold
+pub mod NewsFit
+pub mod EndsUntold
+pub mod RestStays

@@ -2,10 +2,9 @@
 -- was given, and answers with a timeout override.
 use Rattle.std.proofs.Common.{inl, inr, sym, ◌∙◌, ap, append-nil, refl, arith}
 use Rattle.std.proofs.lemmas.List.{drop_all}
-use Rattle.std.specs.Prelude.{ℕ, ◌≡◌, ◌⊎◌, ◌+◌, Bool, true, false, not, ◌&&◌, ◌||◌, List, [], ◌∷◌, ◌++◌, length, drop, map, Option, Some, None, if◌then◌else◌}
+use Rattle.std.specs.Prelude.{◌≡◌, ◌⊎◌, ◌+◌, Bool, true, false, not, ◌||◌, List, [], ◌∷◌, ◌++◌, length, map, Option, Some, None, if◌then◌else◌}
 use Rattle.ext_msgs.specs.declared.answer.Answer.{Answer as Answering}
 use Rattle.ext_msgs.specs.declared.answer.Span.{Span}
-use Rattle.ext_msgs.specs.declared.ask.Ask.{Ask}
 use Rattle.http_model.specs.Bytes.{is_empty}
 use Rattle.http_model.specs.declared.types.Direction.{Direction}
 use Rattle.http_model.specs.declared.types.Direction.TheVariants.{Request, Response}
@@ -45,7 +44,7 @@ same_made c x e f =
     ∙ ap (λ l. (x.made ++ []) ++ l) (none_made Response (course Response x) (course Response (Ends c x)) f)
     ∙ append-nil (x.made ++ []) ∙ append-nil x.made
 
-timer_in : (d : Direction) (c : FilterConfig) (y : ExchangeAccount)
+pub timer_in : (d : Direction) (c : FilterConfig) (y : ExchangeAccount)
     → ((flow d (Ends c y)).deadline ≡ (if is_out_in y d then (flow d y).deadline else y.now + c.timeout_ms)) × ((flow d (Ends c y)).extended ≡ (flow d y).extended)
 unfolding with_ending asked_in settled committed
 timer_in Request c y = (refl, refl)

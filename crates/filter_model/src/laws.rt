@@ -4,7 +4,7 @@ ghost use Rattle.ext_msgs.specs.declared.answer.Answer.{Answer as Answering};
 ghost use Rattle.ext_msgs.specs.declared.answer.Common.{Common};
 ghost use Rattle.ext_msgs.specs.declared.answer.Span.{Span};
 ghost use Rattle.ext_msgs.specs.declared.modes.PartModes.{PartModes};
-ghost use Rattle.filter_model.specs.Account.{ExchangeAccount, Live, course, from, gathered, given_count, is_finished, is_given_at, is_in, to, unsent, flow, front, is_out_in, is_released};
+ghost use Rattle.filter_model.specs.Account.{ExchangeAccount, Live, course, from, gathered, given_count, is_finished, is_given_at, is_in, to, unsent, flow, front, is_out_in, is_released, Left, is_given, settled};
 ghost use Rattle.filter_model.specs.AllGiven.{is_all_handed, is_nothing};
 ghost use Rattle.filter_model.specs.Answers.{extended_by, override_of};
 ghost use Rattle.filter_model.specs.Config.{CourseConfig, FilterConfig};
@@ -17,9 +17,9 @@ ghost use Rattle.filter_model.specs.HalfRight.{IsPast, framing_in, has_trailers,
 ghost use Rattle.filter_model.specs.Outgoing.{IsWire};
 ghost use Rattle.filter_model.specs.Right.{Call, Stepped, Took, Headline, IsHistory, account, ask_given, is_done};
 ghost use Rattle.filter_model.specs.Sound.{Sound};
-ghost use Rattle.filter_model.specs.Step.{is_live, step};
+ghost use Rattle.filter_model.specs.Step.{cut, ending_of, fate_under, is_departure, is_live, step, still_counts};
 ghost use Rattle.filter_model.specs.Told.{Comes, IsLetPass, IsNoCut, IsOfProcessor, IsOfSides, IsShort, ReadWell, asks_behind, known, more_given, news, told};
-ghost use Rattle.filter_model.specs.ToldMore.{IsAnswerTo, IsOfNoSide, ReadsNothing, across, other_calls, own_calls};
+ghost use Rattle.filter_model.specs.ToldMore.{AllFit, BringsNoAnswer, IsAnswerTo, IsOfNoSide, ReadsNothing, SameRest, across, other_calls, own_calls};
 ghost use Rattle.filter_model.specs.View.{ViewEntry, Answered, Given, Lost, Sent, Starved};
 ghost use Rattle.filter_model.specs.declared.calls.Loss.{Loss};
 ghost use Rattle.filter_model.specs.declared.calls.Side.{Side};
@@ -243,10 +243,10 @@ pub fn at_rest()
         (account c h).response.course.released ≡ (account c h).request.course.released }
 {}
 
-/// An answer to a part that is no cut, while the exchange waits for it: its direction is told the modes that it brings,
-/// while the headers ask is out, and then the answer, which isn't refused; the response is told the modes that an answer
-/// to the request's headers brings for it, before its head. The asks that follow are those of the halves, the request's
-/// first. The timer of its direction starts anew, and that of the other one starts where no ask was out.
+/// An answer to a part that is no cut, while answers count: its direction is told the modes that it brings, while the
+/// headers ask is out, and then the answer, which isn't refused. The response is told the modes that an answer to the
+/// request's headers brings for it, before its head. The asks that follow are those of the halves, the request's first.
+/// The timer of its direction starts anew, and that of the other one starts where no ask was out.
 pub fn answer_told()
     ensures own { (c : FilterConfig) (h : List Call) (x : Answering) (p : PartAnswer) →
         IsHistory c (Stepped (Answered (Some x)) ∷ h) → IsNoCut c (Answered (Some x)) (account c h)
@@ -281,13 +281,14 @@ pub fn answer_told()
         IsNoCut c (Answered (Some x)) a → IsAnswerTo c x p a
         → ((flow (across p.direction) (step c (Answered (Some x)) a)).deadline
         ≡ (if is_out_in a (across p.direction) then (flow (across p.direction) a).deadline else a.now + c.timeout_ms))
-        × ((flow (across p.direction) (step c (Answered (Some x)) a)).extended ≡ (flow (across p.direction) a).extended) }
+        × ((flow (across p.direction) (step c (Answered (Some x)) a)).extended
+        ≡ (flow (across p.direction) a).extended) }
 {}
 
-/// An entry of the processor, of time, or want of memory that is no cut tells the halves nothing once the rest passes or
-/// all was given, and so does an answer with a timeout override before: both courses stay, and no ask follows. A timer
-/// starts where no ask is out; the override starts it anew, once for each ask. Want of memory is no cut only when all was
-/// given.
+/// Once the rest passes or all was given, an entry of the processor or of time, or want of memory, that is no cut tells
+/// the halves nothing; before, an answer with a timeout override tells them nothing. Both courses stay, and no ask
+/// follows. A timer starts where no ask is out, and the override starts it anew, once for each ask. Want of memory is
+/// no cut only when all was given.
 pub fn nothing_told()
     ensures idle { (c : FilterConfig) (h : List Call) (e : ViewEntry) → IsHistory c (Stepped e ∷ h) → IsOfNoSide e
         → IsNoCut c e (account c h) → (is_released (account c h) ≡ true) ⊎ (is_finished c (account c h) ≡ true)
@@ -314,4 +315,56 @@ pub fn nothing_told()
         ≡ (if is_out_in a d then (flow d (extended_by c t a)).deadline else a.now + c.timeout_ms))
         × ((flow d (step c (Answered (Some x)) a)).extended ≡ (flow d (extended_by c t a)).extended) }
     ensures starved { (c : FilterConfig) (a : ExchangeAccount) → IsNoCut c Starved a → is_finished c a ≡ true }
+{}
+
+/// Each call that tells a half what its side brings may be told where it comes: the head once, behind it body bytes
+/// for which there is room, of a message that has a body and isn't whole. This holds where the side brings, behind the
+/// head, no more body than there was room for, and with the head at most a piece.
+pub fn news_fit()
+    ensures { (c : CourseConfig) (d : Direction) (w : Course) (now : Original) → Comes c d w now →
+        (is_some w.original.head ≡ true → length now.body - length w.original.body ≤ body_room c d w)
+        → AllFit c d (news c d (known w) now) (known w) }
+{}
+
+/// A cut that ends an exchange, or the client's leaving, tells the halves nothing that counts: the asks that were made
+/// stay, and each message was given whole afterwards only where it was before. After an end neither changes: of all
+/// entries of the two sides, of the processor and of time only an ask that was sent counts.
+pub fn untold()
+    ensures made { (c : FilterConfig) (e : ViewEntry) (a : ExchangeAccount) → is_live a.fate ≡ true
+        → is_live (step c e a).fate ≡ false → (step c e a).made ≡ a.made }
+    ensures given { (c : FilterConfig) (h : List Call) (e : ViewEntry) → IsHistory c (Stepped e ∷ h)
+        → is_live (account c h).fate ≡ true → is_live (account c (Stepped e ∷ h)).fate ≡ false → (d : Direction)
+        → is_given c (account c (Stepped e ∷ h)) d ≡ is_given c (account c h) d }
+    ensures after_given { (c : FilterConfig) (h : List Call) (e : ViewEntry) → IsHistory c (Stepped e ∷ h)
+        → is_live (account c h).fate ≡ false → (d : Direction)
+        → is_given c (account c (Stepped e ∷ h)) d ≡ is_given c (account c h) d }
+    ensures after_asks { (c : FilterConfig) (e : ViewEntry) (a : ExchangeAccount) → is_live a.fate ≡ false
+        → (d : Direction) → ((course d (step c e a)).asks ≡ (course d a).asks) × ((step c e a).made ≡ a.made) }
+    ensures after_same { (c : FilterConfig) (e : ViewEntry) (a : ExchangeAccount) → is_live a.fate ≡ false
+        → still_counts e ≡ false → step c e a ≡ a }
+{}
+
+/// Beside the courses, the asks and the sides of the halves: what an entry brings to a live exchange stands, cut or not.
+/// Its fate changes only where it is a cut or the client's leaving, and its ending as the account then says. A timer
+/// starts in a direction in which no ask is out, by an entry that is no cut; a cut leaves it.
+pub fn rest_stays()
+    ensures same { (c : FilterConfig) (e : ViewEntry) (a : ExchangeAccount) → is_live a.fate ≡ true
+        → SameRest (gathered e a) (step c e a) }
+    ensures fate { (c : FilterConfig) (e : ViewEntry) (a : ExchangeAccount) → IsNoCut c e a
+        → (step c e a).fate ≡ a.fate }
+    ensures cut_fate { (c : FilterConfig) (e : ViewEntry) (a : ExchangeAccount) (k : Cut) → is_live a.fate ≡ true
+        → is_departure e (gathered e a) ≡ false → cut c e (gathered e a) ≡ Some k
+        → (step c e a).fate ≡ fate_under c k (settled c (gathered e a)) }
+    ensures left { (c : FilterConfig) (e : ViewEntry) (a : ExchangeAccount) → is_live a.fate ≡ true
+        → is_departure e (gathered e a) ≡ true → (step c e a).fate ≡ Left }
+    ensures ending { (c : FilterConfig) (e : ViewEntry) (a : ExchangeAccount) → is_live a.fate ≡ true
+        → (step c e a).ending ≡ ending_of c (record (step c e a) { ending = a.ending }) }
+    ensures timer { (c : FilterConfig) (e : ViewEntry) (a : ExchangeAccount) → BringsNoAnswer e → IsNoCut c e a
+        → (d : Direction) → ((flow d (step c e a)).deadline
+        ≡ (if is_out_in a d then (flow d a).deadline else (gathered e a).now + c.timeout_ms))
+        × ((flow d (step c e a)).extended ≡ (flow d a).extended) }
+    ensures cut_timer { (c : FilterConfig) (e : ViewEntry) (a : ExchangeAccount) (k : Cut) → is_live a.fate ≡ true
+        → is_departure e (gathered e a) ≡ false → cut c e (gathered e a) ≡ Some k → (d : Direction)
+        → ((flow d (step c e a)).deadline ≡ (flow d a).deadline)
+        × ((flow d (step c e a)).extended ≡ (flow d a).extended) }
 {}
