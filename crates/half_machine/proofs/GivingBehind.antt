@@ -10,6 +10,7 @@ use Rattle.ext_msgs.specs.declared.modes.PartModes.{PartModes}
 use Rattle.ext_msgs.specs.declared.modes.BodyMode.{BodyMode}
 use Rattle.header_mutation.specs.declared.rules.PartKind.TheVariants.{Trailers as TrailerPart}
 use Rattle.http_model.specs.declared.types.Direction.{Direction}
+use Rattle.http_model.specs.declared.types.Out.TheVariants as part
 use Rattle.filter_model.specs.Config.{CourseConfig}
 use Rattle.filter_model.specs.Course.{Course, AskedPart, Headers, Body, Trailers, Changed, Outgoing, changed, changed_at, body_of, changed_trailers, trailers_at, under, is_body, is_trailers, is_body_done, body_done_at, is_stopped, mode, asked_bytes, body_at, next_body, next_streamed, next_buffered, next_partial, next_trailers, out, answer_to, replacement}
 use Rattle.filter_model.specs.Half.{Past, Progress, Taken, Gave, NothingDue, BodyTaken, MayGive, trailers_left, after_step, becomes, progress, course, half_rules}
@@ -170,9 +171,9 @@ body_done_is c d p x m t =
 
 -- What is behind it, by what a half remembers
 
-record EndOf (m : Changed) (replaced body_done trailers trailers_done : Bool) (fields : List Field) : Type 0 where
-  shown : m.trailers ≡ (if replaced || not body_done || not trailers || not trailers_done then None else Some fields)
-  ends : m.ended ≡ (replaced || (body_done && (not trailers || trailers_done)))
+pub record EndOf (m : Changed) (replaced body_done trailers trailers_done : Bool) (fields : List Field) : Type 0 where
+  pub shown : m.trailers ≡ (if replaced || not body_done || not trailers || not trailers_done then None else Some fields)
+  pub ends : m.ended ≡ (replaced || (body_done && (not trailers || trailers_done)))
 
 not_twice : (e : Bool) → not (not e) ≡ e
 not_twice true = refl
@@ -193,7 +194,7 @@ ends_by t fields false false pass f = refl
 ends_by t fields false true true f = ap is_some f
 ends_by t fields false true false f = ap is_some f
 
-end_of : (p : Past) (x : Half) (o : Outgoing) → StandsFor p x → (course p).head ≡ Some o
+pub end_of : (p : Past) (x : Half) (o : Outgoing) → StandsFor p x → (course p).head ≡ Some o
     → EndOf (becomes p) x.rule.replaced (body_done_in x) x.arrived.trailers (trailers_done_in x) x.trailers
 unfolding changed
 end_of p x o s h =
@@ -305,3 +306,9 @@ behind_stands p x fields b s = by b
         sound = s.ties.sound;
       };
     }
+
+-- where nothing is handed out it is as it was
+pub nothing_given : (x : Half) (fields : List Field) (b : Behind) → part_behind fields b ≡ part.Nothing → given_behind b x ≡ x
+nothing_given x fields behind.Nothing e = refl
+nothing_given x fields behind.Trailers e = absurd cc
+nothing_given x fields behind.End e = absurd cc

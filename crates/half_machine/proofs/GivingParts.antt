@@ -18,7 +18,7 @@ use Rattle.half_machine.proofs.GivingData.{more_taken, none_out, out_next, out_t
 
 -- The head
 
-head_of : (c : CourseConfig) (d : Direction) (w : Course) (o : Option Outgoing) → w.head ≡ o → (changed c d w).head ≡ o
+pub head_of : (c : CourseConfig) (d : Direction) (w : Course) (o : Option Outgoing) → w.head ≡ o → (changed c d w).head ≡ o
 unfolding changed
 head_of c d w None e = ap (λ z. (changed_at c w z (replacement d w)).head) e
 head_of c d w (Some o) e = ap (λ z. (changed_at c w z (replacement d w)).head) e ∙ by (replacement d w)

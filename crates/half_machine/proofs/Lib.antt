@@ -22,6 +22,7 @@ pub mod NextData
 pub mod GivingData
 pub mod GivingParts
 pub mod GivingBehind
+pub mod AllHanded
 pub mod Joining
 pub mod Judged
 pub mod Answered

@@ -1,8 +1,10 @@
 -- How a half hands out a part of what its message has become.
-use Rattle.std.specs.Prelude.{ℕ, ◌+◌, min, Bool, true, not, ◌&&◌, ◌||◌, List, [], ◌∷◌, length, drop, is_none, if◌then◌else◌}
+use Rattle.std.specs.Prelude.{ℕ, ◌+◌, ◌==◌, min, Bool, true, not, ◌&&◌, ◌||◌, List, [], ◌∷◌, length, drop, is_none, if◌then◌else◌}
 use Rattle.std.specs.List.{list_any}
 use Rattle.ext_msgs.specs.declared.lists.Field.{Field}
 use Rattle.http_model.specs.Bytes.{is_empty}
+use Rattle.http_model.specs.declared.types.Framing.{Framing}
+use Rattle.http_model.specs.declared.types.Framing.TheVariants.{NoField, Length, Chunked}
 use Rattle.http_model.specs.declared.types.Out.{Out}
 use Rattle.http_model.specs.declared.types.Out.TheVariants as part
 use Rattle.body_hold.specs.Steps.{taken, dropped}
@@ -85,3 +87,21 @@ abbrev pub given_behind : Behind → Half → Half
 given_behind behind.Nothing x = x
 given_behind behind.Trailers x = record x { gone = record x.gone { trailers = true } }
 given_behind behind.End x = record x { gone = record x.gone { ended = true } }
+
+-- Whether all of it was handed out
+
+-- what the message becomes has ended
+abbrev pub has_ended : Half → Bool
+has_ended x = x.rule.replaced || (body_done_in x && (not x.arrived.trailers || trailers_done_in x))
+
+abbrev pub is_body_handed : Half → Bool
+is_body_handed x = (length x.hold.out == 0) && (not (passes x) || (length x.hold.hand == 0))
+
+-- behind a head of this framing
+abbrev pub is_tail_in : Half → Framing → Bool
+is_tail_in x Chunked = x.gone.trailers || x.gone.ended
+is_tail_in x NoField = true
+is_tail_in x (Length n) = true
+
+abbrev pub is_handed_in : Half → Framing → Bool
+is_handed_in x framing = has_ended x && x.gone.head && is_body_handed x && is_tail_in x framing

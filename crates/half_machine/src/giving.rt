@@ -3,7 +3,7 @@
 ghost use Rattle.std.specs.Prelude.{◌≡◌, ◌≤◌, ◌<◌, List, ℕ, [], take, length, IfOk, IfErr, unwrap_or};
 ghost use Rattle.http_model.specs.declared.types.Out.TheVariants as part;
 ghost use Rattle.filter_model.specs.Half.{Past, Gave, MayGive, after_step, becomes, progress};
-ghost use Rattle.half_machine.specs.Giving.{out_size, hand_size, out_given, hand_given, head_given, body_done_in, trailers_done_in, behind_of, part_behind, given_behind};
+ghost use Rattle.half_machine.specs.Giving.{out_size, hand_size, out_given, hand_given, head_given, body_done_in, trailers_done_in, behind_of, part_behind, given_behind, has_ended};
 ghost use Rattle.half_machine.specs.Stands.{StandsFor};
 
 use crate::due::{body_due, trailers_due};
@@ -30,6 +30,7 @@ impl Half {
             IfOk result (λ out. MayGive max (becomes p) (progress p).taken out) }
         ensures stands { (p : Past) → StandsFor p self.old →
             IfOk result (λ out. StandsFor (after_step (Gave out) p) self.new) }
+        ensures still { IfOk result (λ out. out ≡ part.Nothing → self.new ≡ self.old) }
         ensures kept { IfErr result (λ e. self.new ≡ self.old) }
     {
         let Some(framing) = self.gone.framing else {
@@ -157,6 +158,14 @@ impl Half {
             return Behind::Nothing;
         }
         Behind::End
+    }
+
+    // What the message becomes has ended.
+    pub(crate) fn has_ended(&self) -> bool
+        ensures { result ≡ has_ended self.now }
+    {
+        self.rule.replaced
+            || (self.is_body_done() && (!self.arrived.trailers || self.are_trailers_done()))
     }
 
     fn give_behind(&mut self) -> Result<Out, AllocError>

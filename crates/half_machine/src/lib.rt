@@ -20,5 +20,6 @@ mod lengths;
 mod marks;
 mod own;
 mod ready;
+mod telling;
 
 pub use half::Half;

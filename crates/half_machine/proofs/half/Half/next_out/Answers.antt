@@ -6,7 +6,7 @@ use Rattle.half_machine.specs.Stands.{StandsFor}
 use Rattle.half_machine.specs.Giving.{out_size, hand_size, out_given, hand_given, head_given, behind_of, given_behind}
 use Rattle.half_machine.specs.declared.half.Half.{Half}
 use Rattle.half_machine.proofs.GivingParts.{framed, nothing_yet, nothing_stands, head_may, head_stands, out_may, out_stands, hand_may, hand_stands, body_taken}
-use Rattle.half_machine.proofs.GivingBehind.{behind_may, behind_stands}
+use Rattle.half_machine.proofs.GivingBehind.{behind_may, behind_stands, nothing_given}
 use Rattle.half_machine.proofs.half.Half.next_out.Goals as goal
 
 left : (p : Past) (out : Out) (x y : Half) → x ≡ y → StandsFor (after_step (Gave out) p) y → StandsFor (after_step (Gave out) p) x
@@ -89,3 +89,8 @@ returns-clause-stands c p s =
     let x = c.args.self.now in
     left p c.in_ok-out-2.out c.give_behind.new.self (given_behind (behind_of x) x) c.in_ok-out-2.ensures.left
     (subst (λ q. StandsFor (after_step (Gave q) p) (given_behind (behind_of x) x)) (sym c.in_ok-out-2.ensures.gives) (behind_stands p x x.trailers (behind_of x) s))
+
+pub returns-clause-still : goal.returns-clause-still
+returns-clause-still c z =
+    let x = c.args.self.now in
+    c.in_ok-out-2.ensures.left ∙ nothing_given x x.trailers (behind_of x) (sym c.in_ok-out-2.ensures.gives ∙ z)
