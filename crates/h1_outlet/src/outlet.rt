@@ -15,8 +15,8 @@ use std::mem;
 /// The bytes on their way to one side. It is handed the parts of a message, one once all before it was given, and gives
 /// their bytes in pieces of any size, with how many of them are of the body.
 ///
-/// Only `take` takes memory: a part is kept as it came until its first bytes are given. Calls that come when they may not
-/// leave an outlet of which nothing is promised.
+/// Only `take` takes memory: a part is kept as it came until its first bytes are given. A call that comes when it may
+/// not leaves an outlet of which nothing is promised.
 #[derive(Drop)]
 pub struct Outlet {
     alloc: Global,
