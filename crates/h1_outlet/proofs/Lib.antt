@@ -3,3 +3,4 @@ pub mod Refilled
 pub mod Giving
 pub mod Putting
 pub mod FieldSizes
+pub mod OfHalves

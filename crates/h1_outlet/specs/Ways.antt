@@ -8,7 +8,7 @@ pub record Way : Type 0 where
   pub skip : ℕ
   pub body : ℕ
 
--- of these bytes so many were given
+-- the first `at` of these bytes were given, and the body bytes stand among the rest
 pub record Fits (bytes : List ℕ) (at skip body : ℕ) : Type 0 where
   pub within : at + skip + body ≤ length bytes
 

@@ -77,9 +77,14 @@ impl Going {
         let (first, _) = left.split_at(n);
         let bytes = Blob::of(alloc, first)?;
         let body = n.saturating_sub(self.skip).min(self.body);
-        self.at += n;
         self.skip = self.skip.saturating_sub(n);
         self.body -= body;
+        self.at += n;
+        if self.len() == 0 {
+            // What was given takes no memory.
+            self.bytes = Blob::new(alloc);
+            self.at = 0;
+        }
         Ok(Gave {
             bytes,
             body: body as u32,

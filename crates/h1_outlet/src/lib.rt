@@ -3,9 +3,11 @@
 #![tactic(auto)]
 
 mod going;
+mod laws;
 mod outlet;
 mod parts;
 mod sizes;
 
 pub use going::Gave;
+pub use laws::outlet_of_half;
 pub use outlet::Outlet;

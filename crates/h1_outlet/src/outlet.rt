@@ -15,7 +15,8 @@ use std::mem;
 /// The bytes on their way to one side. It is handed the parts of a message, one once all before it was given, and gives
 /// their bytes in pieces of any size, with how many of them are of the body.
 ///
-/// Only `take` takes memory: a part is kept as it came until its first bytes are given.
+/// Only `take` takes memory: a part is kept as it came until its first bytes are given. A call that comes when it may
+/// not leaves an outlet of which nothing is promised.
 #[derive(Drop)]
 pub struct Outlet {
     alloc: Global,
@@ -50,7 +51,7 @@ impl Outlet {
         }
     }
 
-    /// The interim response goes before all else: nothing was handed before.
+    /// The interim response goes before all else. It is owed before anything is handed.
     pub fn owe_interim(&mut self)
         ensures { (f : Flowed) → StandsFor f self.old → MayOwe f → StandsFor (with_interim f) self.new }
     {

@@ -1,9 +1,7 @@
 //! A part of a message, and its bytes.
 
-ghost use Rattle.std.specs.Prelude.{◌≡◌, ◌++◌, ◌∷◌, ◌<◌, Some, true, [], length, IfOk, OnErr};
+ghost use Rattle.std.specs.Prelude.{◌≡◌, ◌<◌, true, length, IfOk, OnErr};
 ghost use Rattle.http_model.specs.Wire.{head_bytes, interim, last_bytes as last};
-ghost use Rattle.http_model.specs.declared.types.Framing.TheVariants.{Chunked};
-ghost use Rattle.http_model.specs.declared.types.Out.TheVariants as part;
 ghost use Rattle.h1_outlet.specs.Parts.{framing_with, trailers_with, chunk_way, data_way, has_bytes, is_chunked, written_way};
 ghost use Rattle.h1_outlet.specs.Ways.{plain};
 
