@@ -99,6 +99,18 @@ impl BodyReader {
         }
     }
 
+    /// The same reader once more.
+    pub fn copy(&self) -> Result<BodyReader, AllocError>
+        ensures { IfOk result (λ r. r ≡ self.now) }
+    {
+        let kept = self.kept.clone()?;
+        Ok(BodyReader {
+            alloc: self.alloc,
+            stage: self.stage,
+            kept,
+        })
+    }
+
     /// How many bytes it keeps.
     pub fn held(&self) -> u64
         ensures { result ≡ length (kept_bytes self.now) }
