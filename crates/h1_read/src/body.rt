@@ -111,9 +111,10 @@ impl BodyReader {
         })
     }
 
-    /// How many bytes it keeps.
+    /// How many bytes it keeps: fewer than a trailer section may take.
     pub fn held(&self) -> u64
-        ensures { result ≡ length (kept_bytes self.now) }
+        ensures value { result ≡ length (kept_bytes self.now) }
+        ensures bound { result < 32768 }
     {
         match self.stage {
             Stage::Line(_) => self.kept.len() as u64,
