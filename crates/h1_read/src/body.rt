@@ -99,9 +99,22 @@ impl BodyReader {
         }
     }
 
-    /// How many bytes it keeps.
+    /// The same reader once more.
+    pub fn copy(&self) -> Result<BodyReader, AllocError>
+        ensures { IfOk result (λ r. r ≡ self.now) }
+    {
+        let kept = self.kept.clone()?;
+        Ok(BodyReader {
+            alloc: self.alloc,
+            stage: self.stage,
+            kept,
+        })
+    }
+
+    /// How many bytes it keeps: fewer than a trailer section may take.
     pub fn held(&self) -> u64
-        ensures { result ≡ length (kept_bytes self.now) }
+        ensures value { result ≡ length (kept_bytes self.now) }
+        ensures bound { result < 32768 }
     {
         match self.stage {
             Stage::Line(_) => self.kept.len() as u64,
