@@ -1,0 +1,5 @@
+pub mod FaultLaw
+pub mod BodyLaw
+pub mod GivenLaw
+pub mod StageLaw
+pub mod EndLaw
