@@ -37,3 +37,4 @@ pub mod NeverOver
 pub mod StillAtRest
 pub mod AnswerTold
 pub mod NothingTold
+pub mod NewsFit

@@ -17,7 +17,7 @@ use Rattle.filter_model.proofs.ToldSame.{Start, begun, begins, by_head, first_ro
 
 -- The first bytes of a longer body, in one ask
 
-abbrev partial : Start → Start
+abbrev pub partial : Start → Start
 partial s = record s { released = false; modes = record s.modes { headers = false; body = Partial } }
 
 none_instead : (b : Bool) → (if b then None else replacement_by None) ≡ None
@@ -62,7 +62,7 @@ none_behind c s o body piece =
     or_none _ _ (asked_once (is_bodiless s.length)) (none_of_trailers (partial s) body (Body piece false ∷ []) (Some o))
 
 -- what a half asks of the first bytes, as many as there was room for
-first_bytes : (c : CourseConfig) (d : Direction) (s : Start) (body : List ℕ) → is_bodiless s.length ≡ false → c.buffer_limit < length body
+pub first_bytes : (c : CourseConfig) (d : Direction) (s : Start) (body : List ℕ) → is_bodiless s.length ≡ false → c.buffer_limit < length body
     → asked c d (committed c d (begun (partial s) body [] false [] None))
     ≡ begun (partial s) body [] false (Body (take c.buffer_limit body) false ∷ []) (Some (outgoing c d (begun (partial s) [] [] false [] None) s.head))
 unfolding committed
@@ -135,13 +135,13 @@ pub record HasBody (s : Start) (now : Original) : Type 0 where
   pub has : is_bodiless s.length ≡ false
   pub bare : now.whole ≡ false → now.trailers ≡ []
 
-after_head : (c : CourseConfig) (d : Direction) (s : Start) (now : Original) → HasBody s now → told c d (head_of now s.head ∷ []) (unbegun s) ≡ by_head c d s
+pub after_head : (c : CourseConfig) (d : Direction) (s : Start) (now : Original) → HasBody s now → told c d (head_of now s.head ∷ []) (unbegun s) ≡ by_head c d s
 after_head c d s now h = ap (λ x. asked c d (committed c d x)) (headed s now h.length ∙ ap (λ b. begun s [] [] b [] None) h.has)
 
-room_after : (c : CourseConfig) (d : Direction) (s : Start) (now : Original) → HasBody s now → body_room c d (told c d (head_of now s.head ∷ []) (unbegun s)) ≡ first_room c s
+pub room_after : (c : CourseConfig) (d : Direction) (s : Start) (now : Original) → HasBody s now → body_room c d (told c d (head_of now s.head ∷ []) (unbegun s)) ≡ first_room c s
 room_after c d s now h = let b = begins c d s in ap (body_room c d) (after_head c d s now h ∙ b.is) ∙ b.room
 
-calls_are : (room : ℕ) (now : Original) (few : Bool) → is_bodiless now.length ≡ false → nat_lt room (length now.body) ≡ few
+pub calls_are : (room : ℕ) (now : Original) (few : Bool) → is_bodiless now.length ≡ false → nat_lt room (length now.body) ≡ few
     → body_calls room now ≡ (if few then Bytes (take room now.body) ∷ more now (drop room now.body) ∷ [] else more_calls now now.body)
 calls_are room now few e f = by _ (is_bodiless now.length) e ∙ ap (λ b. if b then Bytes (take room now.body) ∷ more now (drop room now.body) ∷ [] else more_calls now now.body) f
   where
@@ -213,7 +213,7 @@ pub record HeadComes (c : CourseConfig) (s : Start) (now : Original) : Type 0 wh
   pub sizes : c.piece ≤ c.mark
   pub within : is_over c (begun s now.body now.trailers now.whole [] None) ≡ false
 
-fits_piece : (n piece mark : ℕ) → n ≤ piece → piece ≤ mark → nat_lt (min piece mark) n ≡ false
+pub fits_piece : (n piece mark : ℕ) → n ≤ piece → piece ≤ mark → nat_lt (min piece mark) n ≡ false
 fits_piece n piece mark h k = le-ltb (min piece mark) n (omega (arith, h, k))
 
 with_body : (c : CourseConfig) (d : Direction) (s : Start) (now : Original) → HeadComes c s now → HasBody s now → TellsHead c d s now

@@ -78,20 +78,20 @@ unchanged c d w now y e =
 
 -- Before the head
 
-abbrev start_of : List Field → Length → Course → Start
+abbrev pub start_of : List Field → Length → Course → Start
 start_of h n w = record { head = h; length = n; modes = w.modes; sent = w.sent; given = w.given; released = w.released }
 
 -- nothing was asked and answered, and no head was chosen
-record Bare (w : Course) : Type 0 where
-  asks : w.asks ≡ []
-  answers : w.answers ≡ []
-  head : w.head ≡ None
+pub record Bare (w : Course) : Type 0 where
+  pub asks : w.asks ≡ []
+  pub answers : w.answers ≡ []
+  pub head : w.head ≡ None
 
 none_answered : (l : List Common) (asks : List AskedPart) → length l ≤ length asks → asks ≡ [] → l ≡ []
 none_answered [] asks h e = refl
 none_answered (x ∷ l) asks h e = let z : length asks ≡ 0 = ap length e in absurd (omega (arith, h, z))
 
-bare_of : (c : CourseConfig) (w : Course) → Sound c w → w.original.head ≡ None → Bare w
+pub bare_of : (c : CourseConfig) (w : Course) → Sound c w → w.original.head ≡ None → Bare w
 bare_of c w s n = let k = s.head_read n in record { asks = k.1; answers = none_answered w.answers w.asks s.counts k.1; head = k.0 }
 
 bare_is : (w : Course) (o : Original) → Bare w → known (record w { original = o }) ≡ known (record w { original = o; asks = []; answers = []; head = None })
@@ -100,10 +100,10 @@ bare_is w o b =
     ∙ ap (λ x. known (record w { original = o; asks = []; answers = x })) b.answers
     ∙ ap (λ x. known (record w { original = o; asks = []; answers = []; head = x })) b.head
 
-unread_is : (w : Course) (h : List Field) (n : Length) (f : Option Fault) → Bare w → w.original ≡ unread f → known w ≡ unbegun (start_of h n w)
+pub unread_is : (w : Course) (h : List Field) (n : Length) (f : Option Fault) → Bare w → w.original ≡ unread f → known w ≡ unbegun (start_of h n w)
 unread_is w h n f b e = ap (λ x. known (record w { original = x })) e ∙ bare_is w (unread f) b
 
-begun_is : (w : Course) (h : List Field) (now : Original) → Bare w → now.head ≡ Some h
+pub begun_is : (w : Course) (h : List Field) (now : Original) → Bare w → now.head ≡ Some h
     → known (record w { original = now }) ≡ begun (start_of h now.length w) now.body now.trailers now.whole [] None
 begun_is w h now b e = ap (λ x. known (record w { original = record now { head = x } })) e ∙ bare_is w (record now { head = Some h }) b
 

@@ -1,14 +1,17 @@
 -- What the halves are told of an answer, and of which entries they are told nothing.
-use Rattle.std.specs.Prelude.{◌≡◌, false, List, [], ◌∷◌, Option, Some, None}
+use Rattle.std.specs.Prelude.{◌≡◌, ◌≤◌, false, List, [], ◌∷◌, length, Option, Some, None}
 use Rattle.ext_msgs.specs.declared.answer.Answer.{Answer as Answering}
 use Rattle.ext_msgs.specs.declared.answer.Common.{Common}
 use Rattle.ext_msgs.specs.declared.modes.PartModes.{PartModes}
 use Rattle.http_model.specs.declared.types.Direction.{Direction}
 use Rattle.http_model.specs.declared.types.Direction.TheVariants.{Request, Response}
-use Rattle.filter_model.specs.Config.{FilterConfig}
+use Rattle.filter_model.specs.Config.{CourseConfig, FilterConfig}
 use Rattle.filter_model.specs.Account.{ExchangeAccount, is_finished, is_released}
+use Rattle.filter_model.specs.Course.{Course, asked, body_room, committed}
 use Rattle.filter_model.specs.Cut.{PartAnswer, part_answer}
-use Rattle.filter_model.specs.Half.{HalfCall, Answer, Settle}
+use Rattle.filter_model.specs.Half as half
+use Rattle.filter_model.specs.Half.{HalfCall, Answer, Settle, called}
+use Rattle.filter_model.specs.HalfRight.{MayRead}
 use Rattle.filter_model.specs.View.{ViewEntry, Bytes, End, Lost, Answered, TooLong, Closed, NoStream, Tick, Starved, Sent, Given}
 
 -- Answers
@@ -58,3 +61,17 @@ IsOfNoSide NoStream = Unit {0}
 IsOfNoSide (Tick n) = Unit {0}
 IsOfNoSide Starved = Unit {0}
 IsOfNoSide _ = ⊥
+
+-- News
+
+-- a head, once, or body bytes for which there is room, before the end
+abbrev pub CallFits : CourseConfig → Direction → Course → HalfCall → Type 0
+CallFits c d w (half.Head fields n) = w.original.head ≡ None
+CallFits c d w (half.Bytes bytes) = MayRead w × (length bytes ≤ body_room c d w)
+CallFits c d w (half.End bytes trailers) = MayRead w × (length bytes ≤ body_room c d w)
+CallFits c d w _ = ⊥
+
+-- each of the calls fits where it comes, oldest first
+abbrev pub AllFit : CourseConfig → Direction → List HalfCall → Course → Type 0
+AllFit c d [] w = Unit {0}
+AllFit c d (call ∷ calls) w = CallFits c d w call × AllFit c d calls (asked c d (committed c d (called call w)))

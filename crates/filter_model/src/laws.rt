@@ -18,7 +18,7 @@ ghost use Rattle.filter_model.specs.Right.{Call, Stepped, Took, Headline, IsHist
 ghost use Rattle.filter_model.specs.Sound.{Sound};
 ghost use Rattle.filter_model.specs.Step.{is_live, step};
 ghost use Rattle.filter_model.specs.Told.{Comes, IsLetPass, IsNoCut, IsOfProcessor, IsOfSides, IsShort, ReadWell, asks_behind, known, more_given, news, told};
-ghost use Rattle.filter_model.specs.ToldMore.{IsAnswerTo, IsOfNoSide, ReadsNothing, across, other_calls, own_calls};
+ghost use Rattle.filter_model.specs.ToldMore.{AllFit, IsAnswerTo, IsOfNoSide, ReadsNothing, across, other_calls, own_calls};
 ghost use Rattle.filter_model.specs.View.{ViewEntry, Answered, Given, Lost, Sent, Starved};
 ghost use Rattle.filter_model.specs.declared.calls.Loss.{Loss};
 ghost use Rattle.filter_model.specs.declared.calls.Side.{Side};
@@ -299,4 +299,13 @@ pub fn nothing_told()
         ≡ (if is_out_in a d then (flow d (extended_by c t a)).deadline else a.now + c.timeout_ms))
         × ((flow d (step c (Answered (Some x)) a)).extended ≡ (flow d (extended_by c t a)).extended) }
     ensures starved { (c : FilterConfig) (a : ExchangeAccount) → IsNoCut c Starved a → is_finished c a ≡ true }
+{}
+
+/// Each call that tells a half what its side brings may be told where it comes: the head once, and body bytes behind it,
+/// for which there is room, of a message that has a body and isn't whole. Behind the head its side brings no more than
+/// there was room for; with the head it brings at most a piece.
+pub fn news_fit()
+    ensures { (c : CourseConfig) (d : Direction) (w : Course) (now : Original) → Comes c d w now →
+        (is_some w.original.head ≡ true → length now.body - length w.original.body ≤ body_room c d w)
+        → AllFit c d (news c d (known w) now) (known w) }
 {}
