@@ -219,7 +219,7 @@ departure-made c e a false = under_cut-made c e a (cut c e a)
 
 -- What an entry brings
 
-gathered-made : (e : ViewEntry) (a : ExchangeAccount) → (gathered e a).made ≡ a.made
+pub gathered-made : (e : ViewEntry) (a : ExchangeAccount) → (gathered e a).made ≡ a.made
 unfolding account_rules
 gathered-made (Bytes s bytes) a = refl
 gathered-made (End s) a = refl

@@ -38,3 +38,4 @@ pub mod StillAtRest
 pub mod AnswerTold
 pub mod NothingTold
 pub mod NewsFit
+pub mod EndsUntold

@@ -71,7 +71,7 @@ over_told c d w n = asked_over c d (committed c d w) n
 
 -- A body past its limit that has ended was asked before
 
-over_is : (x y z : Bool) → (x && y && z) ≡ true → (y ≡ true) × (z ≡ true)
+pub over_is : (x y z : Bool) → (x && y && z) ≡ true → (y ≡ true) × (z ≡ true)
 over_is true true true e = (refl, refl)
 over_is true true false e = absurd cc
 over_is true false z e = absurd cc

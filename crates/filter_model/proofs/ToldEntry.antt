@@ -152,7 +152,7 @@ within c e a d h s n k = by (is_released a) refl
 
 -- What was given counts as before
 
-changed_some : (c : CourseConfig) (d : Direction) (w : Course) (o : Outgoing) → w.head ≡ Some o → (changed c d w).head ≡ None → ⊥
+pub changed_some : (c : CourseConfig) (d : Direction) (w : Course) (o : Outgoing) → w.head ≡ Some o → (changed c d w).head ≡ None → ⊥
 unfolding changed
 changed_some c d w o e n = by w.head (replacement d w) e n
   where
@@ -232,7 +232,7 @@ pub sound_in : (d : Direction) (c : FilterConfig) (a : ExchangeAccount) → Held
 sound_in Request c a h = h.request
 sound_in Response c a h = h.response
 
-extends_in : (d : Direction) (e : ViewEntry) (a : ExchangeAccount) → ReadsOn e a → Extends (course d a).original (now d e a)
+pub extends_in : (d : Direction) (e : ViewEntry) (a : ExchangeAccount) → ReadsOn e a → Extends (course d a).original (now d e a)
 unfolding ReadsOn
 extends_in Request e a r = r.0
 extends_in Response e a r = r.1

@@ -48,12 +48,12 @@ same_flow Response (Tick n) a s = (refl, refl)
 same_flow d _ a s = absurd s
 
 -- what the effect makes of a course
-abbrev passed : FilterConfig → Direction → Bool → List ℕ → List ℕ → Course → Course
+abbrev pub passed : FilterConfig → Direction → Bool → List ℕ → List ℕ → Course → Course
 passed c d b front given w =
     let x : Course = counted_course d front given (committed c.course d w) in
     counted_course d front given (committed c.course d (record x { released = x.released || b }))
 
-course_is : (c : FilterConfig) (k : Cut) (d : Direction) (x : ExchangeAccount)
+pub course_is : (c : FilterConfig) (k : Cut) (d : Direction) (x : ExchangeAccount)
     → course d (with_ending c (settled c (effect c k (settled c x)))) ≡ passed c d (lets_pass c k) (front d x) (flow d x).given (flow d x).course
 unfolding with_ending settled effect committed
 course_is c k Request x = refl

@@ -4,7 +4,7 @@ ghost use Rattle.ext_msgs.specs.declared.answer.Answer.{Answer as Answering};
 ghost use Rattle.ext_msgs.specs.declared.answer.Common.{Common};
 ghost use Rattle.ext_msgs.specs.declared.answer.Span.{Span};
 ghost use Rattle.ext_msgs.specs.declared.modes.PartModes.{PartModes};
-ghost use Rattle.filter_model.specs.Account.{ExchangeAccount, Live, course, flow, from, front, gathered, given_count, is_finished, is_in, is_out_in, is_released, to, unsent};
+ghost use Rattle.filter_model.specs.Account.{ExchangeAccount, Live, course, flow, from, front, gathered, given_count, is_finished, is_given, is_in, is_out_in, is_released, to, unsent};
 ghost use Rattle.filter_model.specs.Answers.{extended_by, override_of};
 ghost use Rattle.filter_model.specs.Config.{CourseConfig, FilterConfig};
 ghost use Rattle.filter_model.specs.Course.{Course, Changed, asked, body_of, body_room, changed, committed, due, is_headers, is_over, out, queue};
@@ -16,7 +16,7 @@ ghost use Rattle.filter_model.specs.HalfRight.{IsPast, written_parts};
 ghost use Rattle.filter_model.specs.Outgoing.{IsWire};
 ghost use Rattle.filter_model.specs.Right.{Call, Stepped, Took, Headline, IsHistory, account, ask_given, is_done};
 ghost use Rattle.filter_model.specs.Sound.{Sound};
-ghost use Rattle.filter_model.specs.Step.{is_live, step};
+ghost use Rattle.filter_model.specs.Step.{is_live, step, still_counts};
 ghost use Rattle.filter_model.specs.Told.{Comes, IsLetPass, IsNoCut, IsOfProcessor, IsOfSides, IsShort, ReadWell, asks_behind, known, more_given, news, told};
 ghost use Rattle.filter_model.specs.ToldMore.{AllFit, IsAnswerTo, IsOfNoSide, ReadsNothing, across, other_calls, own_calls};
 ghost use Rattle.filter_model.specs.View.{ViewEntry, Answered, Given, Lost, Sent, Starved};
@@ -308,4 +308,22 @@ pub fn news_fit()
     ensures { (c : CourseConfig) (d : Direction) (w : Course) (now : Original) → Comes c d w now →
         (is_some w.original.head ≡ true → length now.body - length w.original.body ≤ body_room c d w)
         → AllFit c d (news c d (known w) now) (known w) }
+{}
+
+/// A cut that ends an exchange, or the client's leaving, tells the halves nothing that counts: the asks that were made
+/// stay, and each message was given whole afterwards only where it was before. After an end neither changes: of all
+/// entries of the two sides, of the processor and of time only an ask that was sent counts.
+pub fn untold()
+    ensures made { (c : FilterConfig) (e : ViewEntry) (a : ExchangeAccount) → is_live a.fate ≡ true
+        → is_live (step c e a).fate ≡ false → (step c e a).made ≡ a.made }
+    ensures given { (c : FilterConfig) (h : List Call) (e : ViewEntry) → IsHistory c (Stepped e ∷ h)
+        → is_live (account c h).fate ≡ true → is_live (account c (Stepped e ∷ h)).fate ≡ false → (d : Direction)
+        → is_given c (account c (Stepped e ∷ h)) d ≡ is_given c (account c h) d }
+    ensures after_given { (c : FilterConfig) (h : List Call) (e : ViewEntry) → IsHistory c (Stepped e ∷ h)
+        → is_live (account c h).fate ≡ false → (d : Direction)
+        → is_given c (account c (Stepped e ∷ h)) d ≡ is_given c (account c h) d }
+    ensures after_asks { (c : FilterConfig) (e : ViewEntry) (a : ExchangeAccount) → is_live a.fate ≡ false
+        → (d : Direction) → ((course d (step c e a)).asks ≡ (course d a).asks) × ((step c e a).made ≡ a.made) }
+    ensures after_same { (c : FilterConfig) (e : ViewEntry) (a : ExchangeAccount) → is_live a.fate ≡ false
+        → still_counts e ≡ false → step c e a ≡ a }
 {}
