@@ -13,24 +13,23 @@ use Rattle.http_model.specs.Reads.{Original, cut_short, read_by, reads}
 use Rattle.http_model.specs.Wire.{field_line, field_lines, first_lines, framing_field, head_bytes, is_written_as_is}
 use Rattle.http_model.specs.declared.types.Direction.{Direction}
 use Rattle.http_model.specs.declared.types.Direction.TheVariants.{Request, Response}
-use Rattle.http_model.specs.declared.types.Framing.{Framing}
 use Rattle.http_model.specs.declared.types.Length.{Length}
 use Rattle.http_model.specs.declared.types.Length.TheVariants.{NoBody, Known, Chunked, Close}
 use Rattle.http_model.proofs.ReadsOn.{reads_is_reader}
 use Rattle.filter_model.specs.Config.{CourseConfig, FilterConfig}
-use Rattle.filter_model.specs.Course.{AskedPart, Changed, Course, Outgoing, body_done_at, changed, changed_at, committed, course_rules, head_may_go, is_bare, is_body, is_buffered, is_over, is_settled, kept, mode, replaces, answer_to, is_headers, next_body, out, outgoing, replacement, replacement_at}
-use Rattle.filter_model.specs.Account.{Aborted, ExchangeAccount, Flow, course, flow, from, front, gathered, brought, is_given, is_given_at, is_released, is_to_head, is_finished, one_sent, settled}
+use Rattle.filter_model.specs.Course.{AskedPart, Changed, Course, Outgoing, body_done_at, changed, changed_at, course_rules, head_may_go, is_bare, is_body, is_buffered, is_over, is_settled, kept, mode, replaces, answer_to, is_headers, next_body, out, outgoing, replacement, replacement_at}
+use Rattle.filter_model.specs.Account.{Aborted, ExchangeAccount, course, flow, front, gathered, brought, is_given, is_given_at, is_released, is_to_head, is_finished, one_sent, settled}
 use Rattle.filter_model.specs.Answers.{answered}
 use Rattle.filter_model.specs.Cut.{Cut, Over, Peer, fault_cut, over_cut, peer_cut, processor_cut}
 use Rattle.filter_model.specs.Right.{Call, Stepped, IsHistory, May, account}
 use Rattle.filter_model.specs.Sound.{Sound}
-use Rattle.filter_model.specs.Step.{after, after_end, by_reply, cut, cut_at, effect, fate_under, is_departure, is_live, lets_pass, no_cut, on, reply_to, still_counts, step, step_if, under_cut, under_departure, with_ending}
+use Rattle.filter_model.specs.Step.{after, after_end, by_reply, cut, cut_at, effect, fate_under, is_departure, is_live, lets_pass, on, reply_to, still_counts, step, step_if, under_cut, under_departure, with_ending}
 use Rattle.filter_model.specs.View.{ViewEntry, Bytes, End, Lost, Answered, TooLong, Closed, NoStream, Tick, Starved, Sent, Given}
 use Rattle.filter_model.specs.declared.calls.Side.TheVariants.{Client, Upstream}
 use Rattle.filter_model.proofs.AtRest.{Steady, steady}
-use Rattle.filter_model.proofs.CourseGrows.{and_first, if_buffered}
+use Rattle.filter_model.proofs.CourseGrows.{if_buffered}
 use Rattle.filter_model.proofs.Firm.{Firm}
-use Rattle.filter_model.proofs.GivenRight.{FrontGrown, StepGrown, fits, gives, no_given, step-given, step_grown}
+use Rattle.filter_model.proofs.GivenRight.{FrontGrown, StepGrown, fits, no_given, step-given, step_grown}
 use Rattle.filter_model.proofs.Kept.{gathered-fate, gathered-made, no_cut_kept}
 use Rattle.filter_model.proofs.NeverOver.{Within, gathered_is, over_asked, over_is, read_on, within_along}
 use Rattle.filter_model.proofs.ReadAlong.{Read, reads_on}
@@ -242,7 +241,7 @@ read_given c d w o n h f g s t u k (inr (inr l)) (inr r) = longer_given c.course
 -- The head
 
 -- with a head nothing was given whole that isn't longer than what goes before it
-pub few_is_none : (d : Direction) (o : Option Outgoing) (m : Changed) (f g : List ℕ) → length g ≤ length f → is_given_at d o m f g ≡ false
+few_is_none : (d : Direction) (o : Option Outgoing) (m : Changed) (f g : List ℕ) → length g ≤ length f → is_given_at d o m f g ≡ false
 unfolding head_bytes
 few_is_none d None m f g h = refl
 few_is_none d (Some o) m f g h = by m.ended (nat_le (length (f ++ head_bytes d o.fields o.framing)) (length g)) _ short

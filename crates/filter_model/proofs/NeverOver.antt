@@ -1,10 +1,9 @@
 -- While an exchange lives no body is past its limit: the entry that brings more of it, or that settles BUFFERED with more, is the cut.
 use Rattle.std.proofs.Common.{inl, inr, sym, ◌∙◌, ap, subst, refl, arith, length-append, ltb-true}
-use Rattle.std.specs.Prelude.{ℕ, ◌≡◌, ◌⊎◌, ◌<◌, ◌≤◌, Bool, true, false, not, ◌&&◌, ◌||◌, List, [], ◌∷◌, ◌++◌, length, Option, Some, None, if◌then◌else◌, is_some, is_none, find, option_map, nat_lt, nat_le}
+use Rattle.std.specs.Prelude.{ℕ, ◌≡◌, ◌⊎◌, ◌<◌, ◌≤◌, Bool, true, false, not, ◌&&◌, ◌||◌, List, [], ◌∷◌, ◌++◌, length, Option, Some, None, if◌then◌else◌, is_some, find, option_map, nat_lt, nat_le}
 use Rattle.std.specs.List.{list_any}
 use Rattle.ext_msgs.specs.declared.answer.Common.{Common}
 use Rattle.ext_msgs.specs.declared.modes.BodyMode.{BodyMode}
-use Rattle.http_model.specs.Bytes.{is_empty}
 use Rattle.http_model.specs.Heads.{is_bodiless}
 use Rattle.http_model.specs.Reader.{Extends}
 use Rattle.http_model.specs.Reads.{Original}
@@ -12,13 +11,13 @@ use Rattle.http_model.specs.Wire.{head_bytes}
 use Rattle.http_model.specs.declared.types.Direction.{Direction}
 use Rattle.http_model.specs.declared.types.Direction.TheVariants.{Request, Response}
 use Rattle.filter_model.specs.Config.{CourseConfig, FilterConfig}
-use Rattle.filter_model.specs.Course.{Course, Changed, Outgoing, AskedPart, answer_to, asked, body_done_at, changed, changed_at, committed, due, is_bare, is_body, is_body_done, is_buffered, is_headers, is_over, is_settled, is_stopped, kept, mode, mode_at, new_piece, next_body, one_asked, out, replaces, replacement, replacement_at}
-use Rattle.filter_model.specs.Account.{ExchangeAccount, Live, course, front, gathered, brought, is_all_given, is_finished, is_given, is_given_at, is_released, is_to_head, settled, flow, counted_course, start}
+use Rattle.filter_model.specs.Course.{Course, Changed, Outgoing, AskedPart, answer_to, asked, body_done_at, changed, changed_at, committed, due, is_bare, is_body, is_body_done, is_buffered, is_headers, is_over, is_settled, is_stopped, mode, mode_at, new_piece, next_body, one_asked, out, replaces, replacement, replacement_at}
+use Rattle.filter_model.specs.Account.{ExchangeAccount, Live, course, front, gathered, brought, is_finished, is_given, is_given_at, is_released, is_to_head, settled, flow, counted_course}
 use Rattle.filter_model.specs.Answers.{answered, asked_in}
 use Rattle.filter_model.specs.Cut.{Cut, over_cut, peer_cut, processor_cut}
 use Rattle.filter_model.specs.Right.{Call, Stepped, Took, Nexted, Failed, IsHistory, account}
 use Rattle.filter_model.specs.Sound.{Sound}
-use Rattle.filter_model.specs.Step.{accepted, after, after_end, cut, cut_at, effect, is_departure, is_live, lets_pass, no_cut, on, reply_to, step, step_if, still_counts, under_cut, under_departure, with_ending}
+use Rattle.filter_model.specs.Step.{accepted, after, cut, cut_at, effect, is_departure, is_live, lets_pass, no_cut, on, reply_to, step, step_if, under_cut, under_departure, with_ending}
 use Rattle.filter_model.specs.Told.{IsNoCut}
 use Rattle.filter_model.specs.ToldMore.{ReadsNothing}
 use Rattle.filter_model.specs.View.{ViewEntry, Bytes, End, Lost, Answered, TooLong, Closed, NoStream, Tick, Starved, Sent, Given}
@@ -81,7 +80,7 @@ replaced_by_answer : (b : Bool) (x : Option (List ℕ)) (r : List ℕ) → (if b
 replaced_by_answer true x r e = refl
 replaced_by_answer false x r e = absurd cc
 
-pub not_replaced : (bare : Bool) (x : Option Common) (r : Bool) (m : BodyMode) (b : List ℕ) → replacement_at bare x ≡ Some b → is_buffered (mode_at r x m) ≡ true → ⊥
+not_replaced : (bare : Bool) (x : Option Common) (r : Bool) (m : BodyMode) (b : List ℕ) → replacement_at bare x ≡ Some b → is_buffered (mode_at r x m) ≡ true → ⊥
 not_replaced true x r m b e f = cc
 not_replaced false None r m b e f = cc
 not_replaced false (Some a) r m b e f = not_buffered r (Some a) m (replaced_by_answer a.replace (new_piece a.body) b e) f
@@ -146,7 +145,7 @@ over_asked c d w s f e i = by w.head (replacement d w) refl i
 abbrev pub read_on : Course → Original → ℕ → Course
 read_on w o n = record w { original = o; sent = n }
 
-pub ended_within : (c : CourseConfig) (d : Direction) (w : Course) (o : Original) (n : ℕ) → Sound c w → Firm w → Sound c (read_on w o n) → Extends w.original o → is_over c w ≡ false
+ended_within : (c : CourseConfig) (d : Direction) (w : Course) (o : Original) (n : ℕ) → Sound c w → Firm w → Sound c (read_on w o n) → Extends w.original o → is_over c w ≡ false
     → (changed c d (read_on w o n)).ended ≡ true → is_over c (read_on w o n) ≡ false
 ended_within c d w o n s f t x k i = by (is_over c (read_on w o n)) refl
   where

@@ -1,13 +1,12 @@
 -- Each call that tells a half what its side brings may be told, and brings no more body bytes than there is room for.
-use Rattle.std.proofs.Common.{inl, inr, sym, ◌∙◌, ap, subst, refl, arith, le-ltb, ltb-false, ltb-true}
+use Rattle.std.proofs.Common.{sym, ◌∙◌, ap, subst, refl, arith, le-ltb, ltb-false, ltb-true}
 use Rattle.std.proofs.lemmas.List.{length-drop, length-take-le}
-use Rattle.std.specs.Prelude.{ℕ, ◌≡◌, ◌+◌, ◌-◌, ◌<◌, ◌≤◌, min, Bool, true, false, not, ◌&&◌, ◌||◌, List, [], ◌∷◌, length, take, drop, Option, Some, None, if◌then◌else◌, is_some, nat_lt}
+use Rattle.std.specs.Prelude.{ℕ, ◌≡◌, ◌+◌, ◌-◌, ◌<◌, ◌≤◌, min, Bool, true, false, not, ◌&&◌, List, [], ◌∷◌, length, take, drop, Option, Some, None, if◌then◌else◌, is_some, nat_lt}
 use Rattle.ext_msgs.specs.declared.lists.Field.{Field}
 use Rattle.ext_msgs.specs.declared.modes.BodyMode.{BodyMode}
 use Rattle.ext_msgs.specs.declared.modes.BodyMode.TheVariants.{NoAsk, Streamed, Buffered, Partial}
 use Rattle.http_model.specs.Bytes.{is_empty}
 use Rattle.http_model.specs.Heads.{is_bodiless}
-use Rattle.http_model.specs.Reader.{Extends}
 use Rattle.http_model.specs.Reads.{Original}
 use Rattle.http_model.specs.declared.types.Direction.{Direction}
 use Rattle.filter_model.specs.Config.{CourseConfig}
@@ -68,9 +67,10 @@ rest_room c d s body o e f =
 split_fits : (c : CourseConfig) (d : Direction) (s : Start) (now : Original) → HasBody (partial s) now → length now.body ≤ c.piece → c.piece ≤ c.mark
     → nat_lt (first_room c (partial s)) (length now.body) ≡ true → let b = begins c d (partial s) in
     AllFit c d (Behind (first_room c (partial s)) now true) (begun (partial s) [] [] false b.asks b.head)
-split_fits c d s now h n z f =
-    ((begun_reads x b.asks b.head [] h.has, sub_le (length first) room (body_room c d (begun x [] [] false b.asks b.head)) (omega (arith, size)) (sym b.room)),
-    (subst (λ w. CallFits c d w (more now rest)) (sym told_first) (more_fits c d w2 now rest (begun_reads x (Body (take c.buffer_limit first) false ∷ []) (Some o) first h.has) fits), tt))
+split_fits c d s now h n z f = (
+  (begun_reads x b.asks b.head [] h.has, sub_le (length first) room (body_room c d (begun x [] [] false b.asks b.head)) (omega (arith, size)) (sym b.room)),
+  (subst (λ w. CallFits c d w (more now rest)) (sym told_first) (more_fits c d w2 now rest (begun_reads x (Body (take c.buffer_limit first) false ∷ []) (Some o) first h.has) fits), tt),
+)
   where
     x : Start
     x = partial s

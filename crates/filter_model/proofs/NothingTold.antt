@@ -2,10 +2,9 @@
 -- was given, and answers with a timeout override.
 use Rattle.std.proofs.Common.{inl, inr, sym, ◌∙◌, ap, append-nil, refl, arith}
 use Rattle.std.proofs.lemmas.List.{drop_all}
-use Rattle.std.specs.Prelude.{ℕ, ◌≡◌, ◌⊎◌, ◌+◌, Bool, true, false, not, ◌&&◌, ◌||◌, List, [], ◌∷◌, ◌++◌, length, drop, map, Option, Some, None, if◌then◌else◌}
+use Rattle.std.specs.Prelude.{◌≡◌, ◌⊎◌, ◌+◌, Bool, true, false, not, ◌||◌, List, [], ◌∷◌, ◌++◌, length, map, Option, Some, None, if◌then◌else◌}
 use Rattle.ext_msgs.specs.declared.answer.Answer.{Answer as Answering}
 use Rattle.ext_msgs.specs.declared.answer.Span.{Span}
-use Rattle.ext_msgs.specs.declared.ask.Ask.{Ask}
 use Rattle.http_model.specs.Bytes.{is_empty}
 use Rattle.http_model.specs.declared.types.Direction.{Direction}
 use Rattle.http_model.specs.declared.types.Direction.TheVariants.{Request, Response}
@@ -124,8 +123,7 @@ idle_timer c e a s n p d =
     let g : ExchangeAccount = gathered e a in
     let i = idle_step c e a s n p in
     let t = timer_in d c g in
-    let f = (same_flow d e a s).0 in
-    (
+    let f = (same_flow d e a s).0 in (
       ap (λ x. (flow d x).deadline) i ∙ t.0 ∙ ap (λ x. if not (is_empty (out x.course)) then x.deadline else g.now + c.timeout_ms) f,
       ap (λ x. (flow d x).extended) i ∙ t.1 ∙ ap (λ x. x.extended) f,
     )
@@ -169,8 +167,7 @@ pub timed_timer : (c : FilterConfig) (x : Answering) (t : Span) (a : ExchangeAcc
     × ((flow d (step c (Answered (Some x)) a)).extended ≡ (flow d (extended_by c t a)).extended)
 timed_timer c x t a n e r f d =
     let i = timed_step c x t a n e r f in
-    let k = timer_in d c (extended_by c t a) in
-    (
+    let k = timer_in d c (extended_by c t a) in (
       ap (λ z. (flow d z).deadline) i ∙ k.0 ∙ ap (λ b. if b then (flow d (extended_by c t a)).deadline else a.now + c.timeout_ms) (timed_in d c t a),
       ap (λ z. (flow d z).extended) i ∙ k.1,
     )

@@ -1,7 +1,6 @@
 -- Each account of a live exchange is at rest.
 use Rattle.std.specs.Prelude.{◌≡◌, true, List, []}
 use Rattle.http_model.specs.declared.types.Direction.{Direction}
-use Rattle.http_model.specs.declared.types.Direction.TheVariants.{Request, Response}
 use Rattle.filter_model.specs.Config.{FilterConfig}
 use Rattle.filter_model.specs.Course.{committed, due}
 use Rattle.filter_model.specs.Account.{course, flow, front, given_count}

@@ -12,7 +12,7 @@ use Rattle.filter_model.specs.Cut.{PartAnswer, part_answer}
 use Rattle.filter_model.specs.Half as half
 use Rattle.filter_model.specs.Half.{HalfCall, Answer, Settle, called}
 use Rattle.filter_model.specs.HalfRight.{MayRead}
-use Rattle.filter_model.specs.View.{ViewEntry, Bytes, End, Lost, Answered, TooLong, Closed, NoStream, Tick, Starved, Sent, Given}
+use Rattle.filter_model.specs.View.{ViewEntry, Bytes, End, Answered, TooLong, Closed, NoStream, Tick, Starved}
 
 -- Answers
 

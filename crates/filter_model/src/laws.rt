@@ -228,10 +228,10 @@ pub fn at_rest()
         (account c h).response.course.released ≡ (account c h).request.course.released }
 {}
 
-/// An answer to a part that is no cut, while the exchange waits for it: its direction is told the modes that it brings,
-/// while the headers ask is out, and then the answer, which isn't refused; the response is told the modes that an answer
-/// to the request's headers brings for it, before its head. The asks that follow are those of the halves, the request's
-/// first. The timer of its direction starts anew, and that of the other one starts where no ask was out.
+/// An answer to a part that is no cut, while answers count: its direction is told the modes that it brings, while the
+/// headers ask is out, and then the answer, which isn't refused. The response is told the modes that an answer to the
+/// request's headers brings for it, before its head. The asks that follow are those of the halves, the request's first.
+/// The timer of its direction starts anew, and that of the other one starts where no ask was out.
 pub fn answer_told()
     ensures own { (c : FilterConfig) (h : List Call) (x : Answering) (p : PartAnswer) →
         IsHistory c (Stepped (Answered (Some x)) ∷ h) → IsNoCut c (Answered (Some x)) (account c h)
@@ -266,13 +266,14 @@ pub fn answer_told()
         IsNoCut c (Answered (Some x)) a → IsAnswerTo c x p a
         → ((flow (across p.direction) (step c (Answered (Some x)) a)).deadline
         ≡ (if is_out_in a (across p.direction) then (flow (across p.direction) a).deadline else a.now + c.timeout_ms))
-        × ((flow (across p.direction) (step c (Answered (Some x)) a)).extended ≡ (flow (across p.direction) a).extended) }
+        × ((flow (across p.direction) (step c (Answered (Some x)) a)).extended
+        ≡ (flow (across p.direction) a).extended) }
 {}
 
-/// An entry of the processor, of time, or want of memory that is no cut tells the halves nothing once the rest passes or
-/// all was given, and so does an answer with a timeout override before: both courses stay, and no ask follows. A timer
-/// starts where no ask is out; the override starts it anew, once for each ask. Want of memory is no cut only when all was
-/// given.
+/// An entry of the processor or of time, or want of memory, that is no cut tells the halves nothing once the rest passes
+/// or all was given, and an answer with a timeout override tells them nothing before: both courses stay, and no ask
+/// follows. A timer starts where no ask is out, and the override starts it anew, once for each ask. Want of memory is no
+/// cut only when all was given.
 pub fn nothing_told()
     ensures idle { (c : FilterConfig) (h : List Call) (e : ViewEntry) → IsHistory c (Stepped e ∷ h) → IsOfNoSide e
         → IsNoCut c e (account c h) → (is_released (account c h) ≡ true) ⊎ (is_finished c (account c h) ≡ true)
@@ -301,9 +302,9 @@ pub fn nothing_told()
     ensures starved { (c : FilterConfig) (a : ExchangeAccount) → IsNoCut c Starved a → is_finished c a ≡ true }
 {}
 
-/// Each call that tells a half what its side brings may be told where it comes: the head once, and body bytes behind it,
-/// for which there is room, of a message that has a body and isn't whole. Behind the head its side brings no more than
-/// there was room for; with the head it brings at most a piece.
+/// Each call that tells a half what its side brings may be told where it comes: the head once, and behind it body bytes
+/// for which there is room, of a message that has a body and isn't whole. This holds where the side brings, behind the
+/// head, no more body than there was room for, and with the head at most a piece.
 pub fn news_fit()
     ensures { (c : CourseConfig) (d : Direction) (w : Course) (now : Original) → Comes c d w now →
         (is_some w.original.head ≡ true → length now.body - length w.original.body ≤ body_room c d w)
