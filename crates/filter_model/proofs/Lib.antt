@@ -39,3 +39,4 @@ pub mod AnswerTold
 pub mod NothingTold
 pub mod NewsFit
 pub mod EndsUntold
+pub mod RestStays

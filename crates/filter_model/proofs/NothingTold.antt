@@ -44,7 +44,7 @@ same_made c x e f =
     ∙ ap (λ l. (x.made ++ []) ++ l) (none_made Response (course Response x) (course Response (Ends c x)) f)
     ∙ append-nil (x.made ++ []) ∙ append-nil x.made
 
-timer_in : (d : Direction) (c : FilterConfig) (y : ExchangeAccount)
+pub timer_in : (d : Direction) (c : FilterConfig) (y : ExchangeAccount)
     → ((flow d (Ends c y)).deadline ≡ (if is_out_in y d then (flow d y).deadline else y.now + c.timeout_ms)) × ((flow d (Ends c y)).extended ≡ (flow d y).extended)
 unfolding with_ending asked_in settled committed
 timer_in Request c y = (refl, refl)

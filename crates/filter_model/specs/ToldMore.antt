@@ -6,13 +6,13 @@ use Rattle.ext_msgs.specs.declared.modes.PartModes.{PartModes}
 use Rattle.http_model.specs.declared.types.Direction.{Direction}
 use Rattle.http_model.specs.declared.types.Direction.TheVariants.{Request, Response}
 use Rattle.filter_model.specs.Config.{CourseConfig, FilterConfig}
-use Rattle.filter_model.specs.Account.{ExchangeAccount, is_finished, is_released}
+use Rattle.filter_model.specs.Account.{ExchangeAccount, Flow, is_finished, is_released}
 use Rattle.filter_model.specs.Course.{Course, asked, body_room, committed}
 use Rattle.filter_model.specs.Cut.{PartAnswer, part_answer}
 use Rattle.filter_model.specs.Half as half
 use Rattle.filter_model.specs.Half.{HalfCall, Answer, Settle, called}
 use Rattle.filter_model.specs.HalfRight.{MayRead}
-use Rattle.filter_model.specs.View.{ViewEntry, Bytes, End, Answered, TooLong, Closed, NoStream, Tick, Starved}
+use Rattle.filter_model.specs.View.{ViewEntry, Bytes, End, Lost, Answered, TooLong, Closed, NoStream, Tick, Starved, Sent, Given}
 
 -- Answers
 
@@ -75,3 +75,31 @@ CallFits c d w _ = ⊥
 abbrev pub AllFit : CourseConfig → Direction → List HalfCall → Course → Type 0
 AllFit c d [] w = Unit {0}
 AllFit c d (call ∷ calls) w = CallFits c d w call × AllFit c d calls (asked c d (committed c d (called call w)))
+
+-- What an entry leaves
+
+pub record SameFlow (f f' : Flow) : Type 0 where
+  pub brought : f'.brought ≡ f.brought
+  pub ended : f'.ended ≡ f.ended
+  pub lost : f'.lost ≡ f.lost
+  pub given : f'.given ≡ f.given
+  pub original : f'.course.original ≡ f.course.original
+
+-- all but what is asked, answered and released, the heads and counts of the courses, the timers, the fate and the ending
+pub record SameRest (a a' : ExchangeAccount) : Type 0 where
+  pub request : SameFlow a.request a'.request
+  pub response : SameFlow a.response a'.response
+  pub sent : a'.sent ≡ a.sent
+  pub now : a'.now ≡ a.now
+  pub unopened : a'.unopened ≡ a.unopened
+  pub closed : a'.closed ≡ a.closed
+
+-- an entry that brings no answer: of the two sides, of time, or of what went out
+abbrev pub BringsNoAnswer : ViewEntry → Type 0
+BringsNoAnswer (Bytes s bytes) = Unit {0}
+BringsNoAnswer (End s) = Unit {0}
+BringsNoAnswer (Lost s how) = Unit {0}
+BringsNoAnswer (Tick n) = Unit {0}
+BringsNoAnswer Sent = Unit {0}
+BringsNoAnswer (Given s bytes) = Unit {0}
+BringsNoAnswer _ = ⊥

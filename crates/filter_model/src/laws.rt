@@ -4,7 +4,7 @@ ghost use Rattle.ext_msgs.specs.declared.answer.Answer.{Answer as Answering};
 ghost use Rattle.ext_msgs.specs.declared.answer.Common.{Common};
 ghost use Rattle.ext_msgs.specs.declared.answer.Span.{Span};
 ghost use Rattle.ext_msgs.specs.declared.modes.PartModes.{PartModes};
-ghost use Rattle.filter_model.specs.Account.{ExchangeAccount, Live, course, flow, from, front, gathered, given_count, is_finished, is_given, is_in, is_out_in, is_released, to, unsent};
+ghost use Rattle.filter_model.specs.Account.{ExchangeAccount, Left, Live, course, flow, from, front, gathered, given_count, is_finished, is_given, is_in, is_out_in, is_released, settled, to, unsent};
 ghost use Rattle.filter_model.specs.Answers.{extended_by, override_of};
 ghost use Rattle.filter_model.specs.Config.{CourseConfig, FilterConfig};
 ghost use Rattle.filter_model.specs.Course.{Course, Changed, asked, body_of, body_room, changed, committed, due, is_headers, is_over, out, queue};
@@ -16,9 +16,9 @@ ghost use Rattle.filter_model.specs.HalfRight.{IsPast, written_parts};
 ghost use Rattle.filter_model.specs.Outgoing.{IsWire};
 ghost use Rattle.filter_model.specs.Right.{Call, Stepped, Took, Headline, IsHistory, account, ask_given, is_done};
 ghost use Rattle.filter_model.specs.Sound.{Sound};
-ghost use Rattle.filter_model.specs.Step.{is_live, step, still_counts};
+ghost use Rattle.filter_model.specs.Step.{cut, ending_of, fate_under, is_departure, is_live, step, still_counts};
 ghost use Rattle.filter_model.specs.Told.{Comes, IsLetPass, IsNoCut, IsOfProcessor, IsOfSides, IsShort, ReadWell, asks_behind, known, more_given, news, told};
-ghost use Rattle.filter_model.specs.ToldMore.{AllFit, IsAnswerTo, IsOfNoSide, ReadsNothing, across, other_calls, own_calls};
+ghost use Rattle.filter_model.specs.ToldMore.{AllFit, BringsNoAnswer, IsAnswerTo, IsOfNoSide, ReadsNothing, SameRest, across, other_calls, own_calls};
 ghost use Rattle.filter_model.specs.View.{ViewEntry, Answered, Given, Lost, Sent, Starved};
 ghost use Rattle.filter_model.specs.declared.calls.Loss.{Loss};
 ghost use Rattle.filter_model.specs.declared.calls.Side.{Side};
@@ -270,10 +270,10 @@ pub fn answer_told()
         ≡ (flow (across p.direction) a).extended) }
 {}
 
-/// An entry of the processor or of time, or want of memory, that is no cut tells the halves nothing once the rest passes
-/// or all was given, and an answer with a timeout override tells them nothing before: both courses stay, and no ask
-/// follows. A timer starts where no ask is out, and the override starts it anew, once for each ask. Want of memory is no
-/// cut only when all was given.
+/// Once the rest passes or all was given, an entry of the processor or of time, or want of memory, that is no cut tells
+/// the halves nothing; before, an answer with a timeout override tells them nothing. Both courses stay, and no ask
+/// follows. A timer starts where no ask is out, and the override starts it anew, once for each ask. Want of memory is
+/// no cut only when all was given.
 pub fn nothing_told()
     ensures idle { (c : FilterConfig) (h : List Call) (e : ViewEntry) → IsHistory c (Stepped e ∷ h) → IsOfNoSide e
         → IsNoCut c e (account c h) → (is_released (account c h) ≡ true) ⊎ (is_finished c (account c h) ≡ true)
@@ -302,7 +302,7 @@ pub fn nothing_told()
     ensures starved { (c : FilterConfig) (a : ExchangeAccount) → IsNoCut c Starved a → is_finished c a ≡ true }
 {}
 
-/// Each call that tells a half what its side brings may be told where it comes: the head once, and behind it body bytes
+/// Each call that tells a half what its side brings may be told where it comes: the head once, behind it body bytes
 /// for which there is room, of a message that has a body and isn't whole. This holds where the side brings, behind the
 /// head, no more body than there was room for, and with the head at most a piece.
 pub fn news_fit()
@@ -327,4 +327,29 @@ pub fn untold()
         → (d : Direction) → ((course d (step c e a)).asks ≡ (course d a).asks) × ((step c e a).made ≡ a.made) }
     ensures after_same { (c : FilterConfig) (e : ViewEntry) (a : ExchangeAccount) → is_live a.fate ≡ false
         → still_counts e ≡ false → step c e a ≡ a }
+{}
+
+/// Beside the courses, the asks and the sides of the halves: what an entry brings to a live exchange stands, cut or not.
+/// Its fate changes only where it is a cut or the client's leaving, and its ending as the account then says. A timer
+/// starts in a direction in which no ask is out, by an entry that is no cut; a cut leaves it.
+pub fn rest_stays()
+    ensures same { (c : FilterConfig) (e : ViewEntry) (a : ExchangeAccount) → is_live a.fate ≡ true
+        → SameRest (gathered e a) (step c e a) }
+    ensures fate { (c : FilterConfig) (e : ViewEntry) (a : ExchangeAccount) → IsNoCut c e a
+        → (step c e a).fate ≡ a.fate }
+    ensures cut_fate { (c : FilterConfig) (e : ViewEntry) (a : ExchangeAccount) (k : Cut) → is_live a.fate ≡ true
+        → is_departure e (gathered e a) ≡ false → cut c e (gathered e a) ≡ Some k
+        → (step c e a).fate ≡ fate_under c k (settled c (gathered e a)) }
+    ensures left { (c : FilterConfig) (e : ViewEntry) (a : ExchangeAccount) → is_live a.fate ≡ true
+        → is_departure e (gathered e a) ≡ true → (step c e a).fate ≡ Left }
+    ensures ending { (c : FilterConfig) (e : ViewEntry) (a : ExchangeAccount) → is_live a.fate ≡ true
+        → (step c e a).ending ≡ ending_of c (record (step c e a) { ending = a.ending }) }
+    ensures timer { (c : FilterConfig) (e : ViewEntry) (a : ExchangeAccount) → BringsNoAnswer e → IsNoCut c e a
+        → (d : Direction) → ((flow d (step c e a)).deadline
+        ≡ (if is_out_in a d then (flow d a).deadline else (gathered e a).now + c.timeout_ms))
+        × ((flow d (step c e a)).extended ≡ (flow d a).extended) }
+    ensures cut_timer { (c : FilterConfig) (e : ViewEntry) (a : ExchangeAccount) (k : Cut) → is_live a.fate ≡ true
+        → is_departure e (gathered e a) ≡ false → cut c e (gathered e a) ≡ Some k → (d : Direction)
+        → ((flow d (step c e a)).deadline ≡ (flow d a).deadline)
+        × ((flow d (step c e a)).extended ≡ (flow d a).extended) }
 {}
