@@ -40,3 +40,5 @@ pub mod NothingTold
 pub mod NewsFit
 pub mod EndsUntold
 pub mod RestStays
+pub mod BodyWithin
+pub mod EntryFits
