@@ -42,3 +42,4 @@ pub mod EndsUntold
 pub mod RestStays
 pub mod BodyWithin
 pub mod EntryFits
+pub mod CutHead

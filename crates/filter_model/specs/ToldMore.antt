@@ -2,9 +2,12 @@
 use Rattle.std.specs.Prelude.{◌≡◌, ◌≤◌, false, List, [], ◌∷◌, length, Option, Some, None}
 use Rattle.ext_msgs.specs.declared.answer.Answer.{Answer as Answering}
 use Rattle.ext_msgs.specs.declared.answer.Common.{Common}
+use Rattle.ext_msgs.specs.declared.lists.Field.{Field}
 use Rattle.ext_msgs.specs.declared.modes.PartModes.{PartModes}
+use Rattle.http_model.specs.Reads.{Original}
 use Rattle.http_model.specs.declared.types.Direction.{Direction}
 use Rattle.http_model.specs.declared.types.Direction.TheVariants.{Request, Response}
+use Rattle.http_model.specs.declared.types.Length.{Length}
 use Rattle.filter_model.specs.Config.{CourseConfig, FilterConfig}
 use Rattle.filter_model.specs.Account.{ExchangeAccount, Flow, is_finished, is_released}
 use Rattle.filter_model.specs.Course.{Course, asked, body_room, committed}
@@ -103,3 +106,12 @@ BringsNoAnswer (Tick n) = Unit {0}
 BringsNoAnswer Sent = Unit {0}
 BringsNoAnswer (Given s bytes) = Unit {0}
 BringsNoAnswer _ = ⊥
+
+-- of what its side brings, the head alone
+abbrev pub head_at : Option (List Field) → Option (List Field) → Length → List HalfCall
+head_at None (Some head) n = half.Head head n ∷ []
+head_at None None n = []
+head_at (Some head) now n = []
+
+abbrev pub head_news : Original → Original → List HalfCall
+head_news before now = head_at before.head now.head now.length

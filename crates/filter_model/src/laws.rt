@@ -4,7 +4,7 @@ ghost use Rattle.ext_msgs.specs.declared.answer.Answer.{Answer as Answering};
 ghost use Rattle.ext_msgs.specs.declared.answer.Common.{Common};
 ghost use Rattle.ext_msgs.specs.declared.answer.Span.{Span};
 ghost use Rattle.ext_msgs.specs.declared.modes.PartModes.{PartModes};
-ghost use Rattle.filter_model.specs.Account.{ExchangeAccount, Left, Live, course, flow, from, front, gathered, given_count, is_finished, is_given, is_in, is_out_in, is_released, settled, to, unsent};
+ghost use Rattle.filter_model.specs.Account.{ExchangeAccount, Left, Live, course, flow, from, front, gathered, given_count, is_finished, is_given, is_in, is_out_in, is_released, is_to_head, settled, to, unsent};
 ghost use Rattle.filter_model.specs.Answers.{extended_by, override_of};
 ghost use Rattle.filter_model.specs.Config.{CourseConfig, FilterConfig};
 ghost use Rattle.filter_model.specs.Course.{Course, Changed, asked, body_of, body_room, changed, committed, due, is_headers, is_over, out, queue};
@@ -18,7 +18,7 @@ ghost use Rattle.filter_model.specs.Right.{Call, Stepped, Took, Headline, IsHist
 ghost use Rattle.filter_model.specs.Sound.{Sound};
 ghost use Rattle.filter_model.specs.Step.{cut, ending_of, fate_under, is_departure, is_live, step, still_counts};
 ghost use Rattle.filter_model.specs.Told.{Comes, IsLetPass, IsNoCut, IsOfProcessor, IsOfSides, IsShort, ReadWell, asks_behind, known, more_given, news, told};
-ghost use Rattle.filter_model.specs.ToldMore.{AllFit, BringsNoAnswer, IsAnswerTo, IsOfNoSide, ReadsNothing, SameRest, across, other_calls, own_calls};
+ghost use Rattle.filter_model.specs.ToldMore.{AllFit, BringsNoAnswer, IsAnswerTo, IsOfNoSide, ReadsNothing, SameRest, across, head_news, other_calls, own_calls};
 ghost use Rattle.filter_model.specs.View.{ViewEntry, Answered, Given, Lost, Sent, Starved};
 ghost use Rattle.filter_model.specs.declared.calls.Loss.{Loss};
 ghost use Rattle.filter_model.specs.declared.calls.Side.{Side};
@@ -361,4 +361,16 @@ pub fn rest_stays()
         → is_departure e (gathered e a) ≡ false → cut c e (gathered e a) ≡ Some k → (d : Direction)
         → ((flow d (step c e a)).deadline ≡ (flow d a).deadline)
         × ((flow d (step c e a)).extended ≡ (flow d a).extended) }
+{}
+
+/// Whether a cut ends an exchange by a reply hangs on the response's head: on one that the entry itself brings too, where
+/// it can go at once. A half that is told the head alone chooses one where the account does; of other entries it is told
+/// nothing.
+pub fn cut_head()
+    ensures chosen { (c : FilterConfig) (h : List Call) (e : ViewEntry) → IsHistory c (Stepped e ∷ h)
+        → is_live (account c h).fate ≡ true → (d : Direction) →
+        is_some (course d (settled c (gathered e (account c h)))).head
+        ≡ is_some (told c.course d (head_news (course d (account c h)).original
+        (course d (gathered e (account c h))).original) (known (course d (account c h)))).head }
+    ensures to_head { (c : FilterConfig) (a : ExchangeAccount) → is_to_head (settled c a) ≡ is_to_head a }
 {}
