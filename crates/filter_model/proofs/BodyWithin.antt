@@ -1,49 +1,28 @@
 -- The body of a message grows by no more bytes than its side brings.
 use Rattle.std.proofs.Common.{inl, inr, sym, ◌∙◌, ap, subst, refl, arith, length-append, le-ltb, ltb-false, leb-false, take-append-drop}
 use Rattle.std.proofs.lemmas.List.{length-take}
-use Rattle.std.specs.Prelude.{ℕ, zero, suc, ◌≡◌, ◌⊎◌, ◌+◌, ◌-◌, ◌<◌, ◌≤◌, Bool, true, false, ◌&&◌, List, [], ◌∷◌, ◌++◌, length, take, drop, Option, Some, None, if◌then◌else◌, ◌==◌, is_some, nat_le, nat_lt}
+use Rattle.std.specs.Prelude.{ℕ, zero, suc, ◌≡◌, ◌⊎◌, ◌+◌, ◌-◌, ◌<◌, ◌≤◌, Bool, true, false, ◌&&◌, List, [], ◌∷◌, ◌++◌, length, take, drop, if◌then◌else◌, ◌==◌, nat_le, nat_lt}
 use Rattle.ext_msgs.specs.declared.lists.Field.{Field}
-use Rattle.http_model.specs.Bodies.{Body, Begun, Chunk, Last, Piece, Wrong, behind, body, chunk, chunk_behind, chunk_data, chunk_end, chunked_in, chunks_from, trailers_behind, trailers_read}
+use Rattle.http_model.specs.Bodies.{Body, Begun, Chunk, Last, Piece, Wrong, body, chunk, chunk_behind, chunk_data, chunk_end, chunked_in, chunks_from, trailers_behind, trailers_read}
 use Rattle.http_model.specs.Heads.{Head, field_limit, head_limit, message_head}
-use Rattle.http_model.specs.Lines.{AtCr, ChunkShape, InBlanks, InExtension, InSize, NoChunk, before, chunk_by_line, chunk_by_part, chunk_line, chunk_line_at, chunk_line_limit, chunk_shape, line, section}
-use Rattle.http_model.specs.Reading.{Bad, BadChunk, Fault, LongHead, Partial, Reading, Stays, Whole, limited, within}
+use Rattle.http_model.specs.Lines.{AtCr, ChunkShape, InBlanks, InExtension, InSize, NoChunk, chunk_by_line, chunk_by_part, chunk_line, chunk_line_at, chunk_line_limit, chunk_shape, line, section}
+use Rattle.http_model.specs.Reading.{Bad, BadChunk, LongHead, Partial, Reading, Stays, Whole, limited, within}
 use Rattle.http_model.specs.Reads.{read_by, reads}
 use Rattle.http_model.specs.declared.types.Direction.{Direction}
 use Rattle.http_model.specs.declared.types.Length.{Length}
 use Rattle.http_model.specs.declared.types.Length.TheVariants.{NoBody, Known, Chunked, Close}
 use Rattle.http_model.proofs.BodiesGrow.{ChunkGrows, ChunkLeaves, chunk_grows, chunk_leaves}
 use Rattle.http_model.proofs.HeadsStable.{message_head-stays}
-use Rattle.http_model.proofs.LinesStable.{chunk_line-leaves, chunk_line-stays, line-leaves}
+use Rattle.http_model.proofs.LinesStable.{chunk_line-leaves, chunk_line-stays}
 use Rattle.http_model.proofs.Stable.{LeavesUnder, Reaches, Within, at_limit}
+use Rattle.filter_model.proofs.ReadLate.{Late, late_at, line-late, message_head-late}
 
--- A line that isn't whole yet ends in what follows
+-- The line of a chunk
 
 abbrev rest_in : {A : Type 0} → Reading A → List ℕ
 rest_in (Whole a rest) = rest
 rest_in Partial = []
 rest_in (Bad f) = []
-
-part_of : (b : ℕ) (r : Reading (List ℕ)) → before b r ≡ Partial → r ≡ Partial
-part_of b (Whole l rest) e = absurd cc
-part_of b Partial e = refl
-part_of b (Bad f) e = absurd cc
-
-behind_of : (b : ℕ) (r : Reading (List ℕ)) (l rest : List ℕ) → before b r ≡ Whole l rest → (k : List ℕ) × (r ≡ Whole k rest)
-behind_of b (Whole k q) l rest e = (k, ap (Whole k) (ap rest_in e))
-behind_of b Partial l rest e = absurd cc
-behind_of b (Bad f) l rest e = absurd cc
-
-abbrev line_if : ℕ → List ℕ → Bool → Reading (List ℕ)
-line_if b bytes x = elim x [ true ↦ Whole [] bytes | false ↦ before b (line bytes) ]
-
-line_later : (bytes more l rest : List ℕ) → line bytes ≡ Partial → line (bytes ++ more) ≡ Whole l rest → length rest ≤ length more
-line_later [] more l rest e f = let h : length rest < length more = subst (LeavesUnder (length more)) f (line-leaves more) in omega (arith, h)
-line_later (b ∷ bytes) more l rest e f = by (λ k g i. line_later bytes more k rest g i) (b == 10) e f
-  where
-    by : ((k : List ℕ) → line bytes ≡ Partial → line (bytes ++ more) ≡ Whole k rest → length rest ≤ length more) → (x : Bool)
-        → line_if b bytes x ≡ Partial → line_if b (bytes ++ more) x ≡ Whole l rest → length rest ≤ length more
-    by next true e f = absurd cc
-    by next false e f = let k = behind_of b (line (bytes ++ more)) l rest f in next k.0 (part_of b (line bytes) e) k.1
 
 size_part : (s : ChunkShape) (l rest : List ℕ) → chunk_by_line s l rest ≡ Partial → ⊥
 size_part (InSize n) l rest e = cc
@@ -123,7 +102,7 @@ size_later bytes more size rest e f = by (at_limit n bytes more)
         let k = within_whole n (bytes ++ more) (chunk_line_at (take n (bytes ++ more)) (line (take n (bytes ++ more)))) size rest f in
         let l = line_whole (bytes ++ w.next) k.0 k.1 (ap (λ x. chunk_line_at x (line x)) (sym w.taken_more) ∙ k.2) in
         let p : line bytes ≡ Partial = line_part bytes (ap (λ x. chunk_line_at x (line x)) (sym w.taken) ∙ part.0) in
-        let a : length k.1 ≤ length w.next = line_later bytes w.next l.0 k.1 p l.1 in
+        let a : length k.1 ≤ length w.next = late_at (line bytes) (line (bytes ++ w.next)) (length w.next) l.0 k.1 p l.1 (line-late bytes w.next) in
         let b : length (k.1 ++ w.others) ≡ length rest = ap (λ x. length (k.1 ++ x)) (sym w.dropped_more) ∙ ap length k.3 in
         let c : length (w.next ++ w.others) ≡ length more = ap length w.joined in
         omega (arith, a, b, c, length-append k.1 w.others, length-append w.next w.others)
@@ -296,16 +275,24 @@ body_gains (Known n) e e' bytes more =
 body_gains Chunked e e' bytes more = chunked_gains (suc (length bytes)) (suc (length (bytes ++ more))) bytes more (omega arith) (omega arith)
 body_gains Close e e' bytes more = omega (arith, length-append bytes more)
 
--- behind its head
-pub read_gains : (d : Direction) (to_head : Bool) (bytes more : List ℕ) (e e' : Bool) → is_some (reads d to_head bytes e).head ≡ true
-    → length (reads d to_head (bytes ++ more) e').body ≤ length (reads d to_head bytes e).body + length more
+body_within : (n : Length) (e : Bool) (bytes : List ℕ) → length (body n e bytes).content ≤ length bytes
+body_within NoBody e bytes = omega arith
+body_within (Known n) e bytes = let k = length-take n bytes in omega (arith, k)
+body_within Chunked e bytes = all_within (suc (length bytes)) bytes
+body_within Close e bytes = omega arith
+
+-- the head comes, or was there
+pub read_gains : (d : Direction) (to_head : Bool) (bytes more : List ℕ) (e e' : Bool) → length (reads d to_head (bytes ++ more) e').body ≤ length (reads d to_head bytes e).body + length more
 unfolding reads
-read_gains d to_head bytes more e e' i = by (message_head d to_head bytes) (message_head d to_head (bytes ++ more)) (message_head-stays d to_head bytes more) i
+read_gains d to_head bytes more e e' =
+    by (message_head d to_head bytes) (message_head d to_head (bytes ++ more)) (message_head-stays d to_head bytes more) (message_head-late d to_head bytes more)
   where
-    by : (r r' : Reading Head) → Stays r more r' → is_some (read_by d bytes e r).head ≡ true → length (read_by d (bytes ++ more) e' r').body ≤ length (read_by d bytes e r).body + length more
-    by (Whole x rest) r' s i =
+    by : (r r' : Reading Head) → Stays r more r' → Late r (length more) r' → length (read_by d (bytes ++ more) e' r').body ≤ length (read_by d bytes e r).body + length more
+    by (Whole x rest) r' s l =
         let same : length (read_by d (bytes ++ more) e' r').body ≡ length (body x.length e' (rest ++ more)).content = ap (λ q. length (read_by d (bytes ++ more) e' q).body) s in
         let g = body_gains x.length e e' rest more in
         omega (arith, same, g)
-    by Partial r' s i = absurd cc
-    by (Bad f) r' s i = absurd cc
+    by Partial (Whole x rest) s l = let k = body_within x.length e' rest in omega (arith, k, l)
+    by Partial Partial s l = omega arith
+    by Partial (Bad f) s l = omega arith
+    by (Bad f) r' s l = let same : length (read_by d (bytes ++ more) e' r').body ≡ 0 = ap (λ q. length (read_by d (bytes ++ more) e' q).body) s in omega (arith, same)

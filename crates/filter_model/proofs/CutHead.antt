@@ -1,8 +1,8 @@
 -- A head that an entry brings is chosen at once or not, as its half would choose it, told the head alone.
 use Rattle.std.proofs.Common.{inl, inr, sym, ◌∙◌, ap, refl}
-use Rattle.std.specs.Prelude.{ℕ, ◌≡◌, Bool, true, false, not, ◌&&◌, ◌||◌, List, [], ◌∷◌, Option, Some, None, if◌then◌else◌, is_none, is_some, option_map}
+use Rattle.std.specs.Prelude.{ℕ, ◌≡◌, Bool, true, false, ◌&&◌, List, [], ◌∷◌, Option, Some, None, if◌then◌else◌, is_none, is_some, option_map}
 use Rattle.ext_msgs.specs.declared.lists.Field.{Field}
-use Rattle.http_model.specs.Reader.{Extends, Longer}
+use Rattle.http_model.specs.Reader.{Extends}
 use Rattle.http_model.specs.Reads.{Original}
 use Rattle.http_model.specs.declared.types.Direction.{Direction}
 use Rattle.http_model.specs.declared.types.Direction.TheVariants.{Request, Response}
@@ -11,7 +11,6 @@ use Rattle.filter_model.specs.Course.{Course, committed, head_may_go, outgoing}
 use Rattle.filter_model.specs.Account.{ExchangeAccount, course, gathered, is_to_head, settled}
 use Rattle.filter_model.specs.Half.{Head, called}
 use Rattle.filter_model.specs.Right.{Call, Stepped, IsHistory, account}
-use Rattle.filter_model.specs.Sound.{Sound}
 use Rattle.filter_model.specs.Step.{is_live}
 use Rattle.filter_model.specs.Told.{known, told}
 use Rattle.filter_model.specs.ToldMore.{head_at, head_news}
@@ -20,7 +19,7 @@ use Rattle.filter_model.proofs.AtRest.{Steady, asked-head, steady}
 use Rattle.filter_model.proofs.GivenRight.{fits}
 use Rattle.filter_model.proofs.NeverOver.{gathered_is, read_on}
 use Rattle.filter_model.proofs.ReadAlong.{reads_on}
-use Rattle.filter_model.proofs.ToldEntry.{extends_in, rested, sound_in}
+use Rattle.filter_model.proofs.ToldEntry.{extends_in, rested}
 use Rattle.filter_model.proofs.ToldSame.{kept_head}
 
 some_not_none : (h : List Field) → Some h ≡ None → ⊥

@@ -40,6 +40,7 @@ pub mod NothingTold
 pub mod NewsFit
 pub mod EndsUntold
 pub mod RestStays
+pub mod ReadLate
 pub mod BodyWithin
 pub mod EntryFits
 pub mod CutHead

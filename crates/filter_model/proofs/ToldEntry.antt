@@ -72,7 +72,7 @@ reads_alone Response (Lost Upstream how) a s = (refl, refl)
 reads_alone Response (Tick n) a s = (refl, refl)
 reads_alone d _ a s = absurd s
 
-before_well : (d : Direction) (a : ExchangeAccount) → Read a → ReadWell (course d a).original
+pub before_well : (d : Direction) (a : ExchangeAccount) → Read a → ReadWell (course d a).original
 before_well Request a r = subst ReadWell (sym r.request) (reads_well Request (is_to_head a) a.request.brought a.request.ended)
 before_well Response a r = subst ReadWell (sym r.response) (reads_well Response (is_to_head a) a.response.brought a.response.ended)
 

@@ -304,19 +304,20 @@ pub fn nothing_told()
 
 /// Each call that tells a half what its side brings may be told where it comes: the head once, behind it body bytes
 /// for which there is room, of a message that has a body and isn't whole. This holds where the side brings, behind the
-/// head, no more body than there was room for, and with the head at most a piece; along a history it brings no more, as
-/// the body of a message grows by no more bytes than come.
+/// head, no more body than there was room for, and with the head at most a piece. Along a history it never brings more,
+/// as the body of a message grows by no more bytes than come.
 pub fn news_fit()
     ensures fit { (c : CourseConfig) (d : Direction) (w : Course) (now : Original) → Comes c d w now →
         (is_some w.original.head ≡ true → length now.body - length w.original.body ≤ body_room c d w)
         → AllFit c d (news c d (known w) now) (known w) }
     ensures along { (c : FilterConfig) (h : List Call) (e : ViewEntry) → IsHistory c (Stepped e ∷ h) → IsOfSides e
         → IsNoCut c e (account c h) → c.course.piece ≤ c.course.mark → (d : Direction)
-        → IsShort c (course d (account c h)) (course d (gathered e (account c h)))
         → AllFit c.course d (news c.course d (known (course d (account c h)))
         (course d (gathered e (account c h))).original) (known (course d (account c h))) }
+    ensures short { (c : FilterConfig) (h : List Call) (e : ViewEntry) → IsHistory c (Stepped e ∷ h) → IsOfSides e
+        → (d : Direction) → IsShort c (course d (account c h)) (course d (gathered e (account c h))) }
     ensures grows { (d : Direction) (to_head : Bool) (bytes more : List ℕ) (ended now_ended : Bool) →
-        is_some (reads d to_head bytes ended).head ≡ true → length (reads d to_head (bytes ++ more) now_ended).body
+        length (reads d to_head (bytes ++ more) now_ended).body
         ≤ length (reads d to_head bytes ended).body + length more }
 {}
 
