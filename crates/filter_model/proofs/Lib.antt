@@ -44,3 +44,4 @@ pub mod ReadLate
 pub mod BodyWithin
 pub mod EntryFits
 pub mod CutHead
+pub mod OverTold

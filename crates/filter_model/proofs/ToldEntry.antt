@@ -20,6 +20,7 @@ use Rattle.filter_model.specs.Step.{accepted, no_cut, under_cut, under_departure
 use Rattle.filter_model.specs.View.{ViewEntry, Bytes, End, Lost, Tick}
 use Rattle.filter_model.specs.declared.calls.Side.TheVariants.{Client, Upstream}
 use Rattle.filter_model.specs.Sound.{Sound}
+use Rattle.filter_model.specs.ToldMore.{Arrives}
 use Rattle.filter_model.specs.Told.{Comes, IsNoCut, IsOfSides, IsShort, ReadWell, asks_behind, known, news, told}
 use Rattle.filter_model.proofs.Growing.{wire_none}
 use Rattle.filter_model.proofs.CourseGrows.{changed_none}
@@ -53,7 +54,7 @@ step_is c e a s n =
 abbrev now : Direction → ViewEntry → ExchangeAccount → Original
 now d e a = (course d (gathered e a)).original
 
-reads_alone : (d : Direction) (e : ViewEntry) (a : ExchangeAccount) → IsOfSides e
+pub reads_alone : (d : Direction) (e : ViewEntry) (a : ExchangeAccount) → IsOfSides e
     → (course d (gathered e a) ≡ record (course d a) { original = now d e a }) × ((flow d (gathered e a)).given ≡ (flow d a).given)
 unfolding gathered brought
 reads_alone Request (Bytes Client bytes) a s = (refl, refl)
@@ -298,13 +299,13 @@ unfolding committed
 committed_given c d w = refl
 
 -- it comes as a half may be told of it
-pub comes_on : (c : FilterConfig) (h : List Call) (e : ViewEntry) → IsHistory c (Stepped e ∷ h) → IsOfSides e → IsNoCut c e (account c h) → c.course.piece ≤ c.course.mark → (d : Direction)
-    → IsShort c (course d (account c h)) (course d (gathered e (account c h))) → Comes c.course d (course d (account c h)) (course d (gathered e (account c h))).original
-comes_on c h e y s n z d q =
+pub arrives_on : (c : FilterConfig) (h : List Call) (e : ViewEntry) → IsHistory c (Stepped e ∷ h) → IsOfSides e → is_live (account c h).fate ≡ true → c.course.piece ≤ c.course.mark → (d : Direction)
+    → IsShort c (course d (account c h)) (course d (gathered e (account c h))) → Arrives c.course d (course d (account c h)) (course d (gathered e (account c h))).original
+arrives_on c h e y s l z d q =
     let a : ExchangeAccount = account c h in
     let k : Steady c a = steady c h y.0 in
     let x = reads_on c e a k.along.read k.along.held (fits c h e y.1) in
-    let r : Rested c.course d (course d a) (front d a) (flow d a).given = rested d c a k n.live in
+    let r : Rested c.course d (course d a) (front d a) (flow d a).given = rested d c a k l in
     record {
       sound = sound_in d c a k.along.held;
       chosen = r.chosen;
@@ -313,9 +314,28 @@ comes_on c h e y s n z d q =
       before = before_well d a k.along.read;
       after = after_well d e a s k.along.read;
       short = q;
-      within = λ u. within c e a d k.along.held s n ((sound_in d c a k.along.held).head_read u).0;
       sizes = z;
     }
+
+pub comes_of : (c : CourseConfig) (d : Direction) (w : Course) (now : Original) → Arrives c d w now → (w.original.head ≡ None → is_over c (record w { original = now }) ≡ false) → Comes c d w now
+comes_of c d w now x k = record {
+  sound = x.sound;
+  chosen = x.chosen;
+  asked = x.asked;
+  extends = x.extends;
+  before = x.before;
+  after = x.after;
+  short = x.short;
+  within = k;
+  sizes = x.sizes;
+}
+
+pub comes_on : (c : FilterConfig) (h : List Call) (e : ViewEntry) → IsHistory c (Stepped e ∷ h) → IsOfSides e → IsNoCut c e (account c h) → c.course.piece ≤ c.course.mark → (d : Direction)
+    → IsShort c (course d (account c h)) (course d (gathered e (account c h))) → Comes c.course d (course d (account c h)) (course d (gathered e (account c h))).original
+comes_on c h e y s n z d q =
+    let a : ExchangeAccount = account c h in
+    let k : Steady c a = steady c h y.0 in
+    comes_of c.course d (course d a) (now d e a) (arrives_on c h e y s n.live z d q) (λ u. within c e a d k.along.held s n ((sound_in d c a k.along.held).head_read u).0)
 
 pub entry_told : (c : FilterConfig) (h : List Call) (e : ViewEntry) → IsHistory c (Stepped e ∷ h) → IsOfSides e → IsNoCut c e (account c h) → c.course.piece ≤ c.course.mark → (d : Direction)
     → IsShort c (course d (account c h)) (course d (gathered e (account c h)))

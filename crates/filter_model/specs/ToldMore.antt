@@ -1,20 +1,23 @@
 -- What the halves are told of an answer, and of which entries they are told nothing.
-use Rattle.std.specs.Prelude.{◌≡◌, ◌≤◌, false, List, [], ◌∷◌, length, Option, Some, None}
+use Rattle.std.specs.Prelude.{◌≡◌, ◌≤◌, true, false, List, [], ◌∷◌, length, Option, Some, None}
 use Rattle.ext_msgs.specs.declared.answer.Answer.{Answer as Answering}
 use Rattle.ext_msgs.specs.declared.answer.Common.{Common}
 use Rattle.ext_msgs.specs.declared.lists.Field.{Field}
 use Rattle.ext_msgs.specs.declared.modes.PartModes.{PartModes}
+use Rattle.http_model.specs.Reader.{Extends}
 use Rattle.http_model.specs.Reads.{Original}
 use Rattle.http_model.specs.declared.types.Direction.{Direction}
 use Rattle.http_model.specs.declared.types.Direction.TheVariants.{Request, Response}
 use Rattle.http_model.specs.declared.types.Length.{Length}
 use Rattle.filter_model.specs.Config.{CourseConfig, FilterConfig}
 use Rattle.filter_model.specs.Account.{ExchangeAccount, Flow, is_finished, is_released}
-use Rattle.filter_model.specs.Course.{Course, asked, body_room, committed}
+use Rattle.filter_model.specs.Course.{Course, asked, body_room, committed, due, head_may_go}
 use Rattle.filter_model.specs.Cut.{PartAnswer, part_answer}
 use Rattle.filter_model.specs.Half as half
 use Rattle.filter_model.specs.Half.{HalfCall, Answer, Settle, called}
 use Rattle.filter_model.specs.HalfRight.{MayRead}
+use Rattle.filter_model.specs.Sound.{Sound}
+use Rattle.filter_model.specs.Told.{ReadWell}
 use Rattle.filter_model.specs.View.{ViewEntry, Bytes, End, Lost, Answered, TooLong, Closed, NoStream, Tick, Starved, Sent, Given}
 
 -- Answers
@@ -73,6 +76,18 @@ CallFits c d w (half.Head fields n) = w.original.head ≡ None
 CallFits c d w (half.Bytes bytes) = MayRead w × (length bytes ≤ body_room c d w)
 CallFits c d w (half.End bytes trailers) = MayRead w × (length bytes ≤ body_room c d w)
 CallFits c d w _ = ⊥
+
+-- a course at rest reads on, whether the entry is a cut or not
+pub record Arrives (c : CourseConfig) (d : Direction) (w : Course) (now : Original) : Type 0 where
+  pub sound : Sound c w
+  pub chosen : w.head ≡ None → head_may_go w ≡ true → w.original.head ≡ None
+  pub asked : due c d w ≡ []
+  pub extends : Extends w.original now
+  pub before : ReadWell w.original
+  pub after : ReadWell now
+  -- the head's entry brings at most one piece, and the mark leaves room for it
+  pub short : w.original.head ≡ None → length now.body ≤ c.piece
+  pub sizes : c.piece ≤ c.mark
 
 -- each of the calls fits where it comes, oldest first
 abbrev pub AllFit : CourseConfig → Direction → List HalfCall → Course → Type 0

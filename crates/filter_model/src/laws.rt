@@ -5,10 +5,10 @@ ghost use Rattle.ext_msgs.specs.declared.answer.Common.{Common};
 ghost use Rattle.ext_msgs.specs.declared.answer.Span.{Span};
 ghost use Rattle.ext_msgs.specs.declared.modes.PartModes.{PartModes};
 ghost use Rattle.filter_model.specs.Account.{ExchangeAccount, Left, Live, course, flow, from, front, gathered, given_count, is_finished, is_given, is_in, is_out_in, is_released, is_to_head, settled, to, unsent};
-ghost use Rattle.filter_model.specs.Answers.{extended_by, override_of};
+ghost use Rattle.filter_model.specs.Answers.{answered, extended_by, override_of};
 ghost use Rattle.filter_model.specs.Config.{CourseConfig, FilterConfig};
 ghost use Rattle.filter_model.specs.Course.{Course, Changed, asked, body_of, body_room, changed, committed, due, is_headers, is_over, out, queue};
-ghost use Rattle.filter_model.specs.Cut.{AnswerKind, Cut, PartAnswer, is_whole_and_done, peer_cut, processor_cut};
+ghost use Rattle.filter_model.specs.Cut.{AnswerKind, Cut, PartAnswer, is_whole_and_done, part_cut, peer_cut, processor_cut};
 ghost use Rattle.filter_model.specs.Given.{data_in};
 ghost use Rattle.filter_model.specs.Grown.{Grown};
 ghost use Rattle.filter_model.specs.Half.{HalfCall, Answer, Release, Settle, Sent as OneSent, Given as SoManyGiven, Past, Taken, MayGive, NothingDue, becomes, called, course as past_course, parts, progress, refusal, settled_modes};
@@ -18,7 +18,7 @@ ghost use Rattle.filter_model.specs.Right.{Call, Stepped, Took, Headline, IsHist
 ghost use Rattle.filter_model.specs.Sound.{Sound};
 ghost use Rattle.filter_model.specs.Step.{cut, ending_of, fate_under, is_departure, is_live, step, still_counts};
 ghost use Rattle.filter_model.specs.Told.{Comes, IsLetPass, IsNoCut, IsOfProcessor, IsOfSides, IsShort, ReadWell, asks_behind, known, more_given, news, told};
-ghost use Rattle.filter_model.specs.ToldMore.{AllFit, BringsNoAnswer, IsAnswerTo, IsOfNoSide, ReadsNothing, SameRest, across, head_news, other_calls, own_calls};
+ghost use Rattle.filter_model.specs.ToldMore.{AllFit, Arrives, BringsNoAnswer, IsAnswerTo, IsOfNoSide, ReadsNothing, SameRest, across, head_news, other_calls, own_calls};
 ghost use Rattle.filter_model.specs.View.{ViewEntry, Answered, Given, Lost, Sent, Starved};
 ghost use Rattle.filter_model.specs.declared.calls.Loss.{Loss};
 ghost use Rattle.filter_model.specs.declared.calls.Side.{Side};
@@ -205,11 +205,29 @@ pub fn never_over()
         → IsNoCut c Sent (account c h) }
 {}
 
-/// A half that was told of a call asks whether its body is past its limit: heads that are chosen and asks that are made
-/// change nothing of the answer.
+/// A half that was told says whether its body is past its limit as the account does, whether the entry is the cut or
+/// not: heads that are chosen and asks that are made change nothing of it, nor does it matter that the half is told the
+/// entry in turn.
 pub fn over_told()
-    ensures { (c : CourseConfig) (d : Direction) (w : Course) → length w.answers ≤ length w.asks →
+    ensures call { (c : CourseConfig) (d : Direction) (w : Course) → length w.answers ≤ length w.asks →
         is_over c (asked c d (committed c d w)) ≡ is_over c w }
+    ensures news { (c : CourseConfig) (d : Direction) (w : Course) (now : Original) → Arrives c d w now →
+        is_over c (told c d (news c d (known w) now) (known w)) ≡ is_over c (record w { original = now }) }
+    ensures entry { (c : FilterConfig) (h : List Call) (e : ViewEntry) → IsHistory c (Stepped e ∷ h) → IsOfSides e
+        → is_live (account c h).fate ≡ true → c.course.piece ≤ c.course.mark → (d : Direction) →
+        is_over c.course (told c.course d (news c.course d (known (course d (account c h)))
+        (course d (gathered e (account c h))).original) (known (course d (account c h))))
+        ≡ is_over c.course (course d (gathered e (account c h))) }
+    ensures own { (c : FilterConfig) (h : List Call) (x : Answering) (p : PartAnswer) → IsHistory c h
+        → is_live (account c h).fate ≡ true → IsAnswerTo c x p (account c h) → part_cut c (account c h) p ≡ None →
+        is_over c.course (told c.course p.direction
+        (own_calls p.direction (override_of c p.kind x.modes) p.common) (known (course p.direction (account c h))))
+        ≡ is_over c.course (course p.direction (answered c (Answered (Some x)) (account c h))) }
+    ensures other { (c : FilterConfig) (h : List Call) (x : Answering) (p : PartAnswer) → IsHistory c h
+        → is_live (account c h).fate ≡ true → IsAnswerTo c x p (account c h) → part_cut c (account c h) p ≡ None →
+        is_over c.course (told c.course (across p.direction)
+        (other_calls p.direction (override_of c p.kind x.modes)) (known (course (across p.direction) (account c h))))
+        ≡ is_over c.course (course (across p.direction) (answered c (Answered (Some x)) (account c h))) }
 {}
 
 /// While an exchange lives each of its accounts is at rest: heads that can go are chosen, no ask is due, and the body
@@ -339,9 +357,9 @@ pub fn untold()
         → still_counts e ≡ false → step c e a ≡ a }
 {}
 
-/// Beside the courses, the asks and the sides of the halves: what an entry brings to a live exchange stands, cut or not.
-/// Its fate changes only where it is a cut or the client's leaving, and its ending as the account then says. A timer
-/// starts in a direction in which no ask is out, by an entry that is no cut; a cut leaves it.
+/// What an entry does to a live exchange beside the courses and the asks: what it brings stands, whether it is a cut or
+/// not. The fate changes only by a cut or the client's leaving, and the ending as the account then says. An entry that
+/// is no cut and brings no answer starts the timer of a direction in which no ask is out; a cut leaves the timers.
 pub fn rest_stays()
     ensures same { (c : FilterConfig) (e : ViewEntry) (a : ExchangeAccount) → is_live a.fate ≡ true
         → SameRest (gathered e a) (step c e a) }
@@ -364,9 +382,9 @@ pub fn rest_stays()
         × ((flow d (step c e a)).extended ≡ (flow d a).extended) }
 {}
 
-/// Whether a cut ends an exchange by a reply hangs on the response's head: on one that the entry itself brings too, where
-/// it can go at once. A half that is told the head alone chooses one where the account does; of other entries it is told
-/// nothing.
+/// Whether a cut ends an exchange by a reply hangs on the response's head: also on one that the entry itself brings,
+/// where it can go at once. A half that is told the head alone has one then where the account does; of an entry that
+/// brings no head it is told nothing.
 pub fn cut_head()
     ensures chosen { (c : FilterConfig) (h : List Call) (e : ViewEntry) → IsHistory c (Stepped e ∷ h)
         → is_live (account c h).fate ≡ true → (d : Direction) →
