@@ -22,7 +22,7 @@ use Rattle.filter_model.specs.Right.{Call, Stepped, IsHistory, account}
 use Rattle.filter_model.specs.Sound.{Sound}
 use Rattle.filter_model.specs.Step.{accepted, after, no_cut, on, step, step_if, under_cut, with_ending}
 use Rattle.filter_model.specs.Told.{IsNoCut, asks_behind, known, told}
-use Rattle.filter_model.specs.ToldMore.{IsAnswerTo, across, other_calls, own_calls}
+use Rattle.filter_model.specs.ToldMore.{IsAnswerTo, across, cut_for, other_calls, own_calls}
 use Rattle.filter_model.specs.View.{Answered}
 use Rattle.filter_model.proofs.AtRest.{Rested, Steady, steady}
 use Rattle.filter_model.proofs.Known.{asked_known, committed_known}
@@ -57,7 +57,7 @@ step_is c x p a n k =
 
 -- What the answer says of its direction
 
-is_part : (c : FilterConfig) (x : Answering) (p : PartAnswer) (a : ExchangeAccount) → IsNoCut c (Answered (Some x)) a → IsAnswerTo c x p a → part_cut c a p ≡ None
+pub is_part : (c : FilterConfig) (x : Answering) (p : PartAnswer) (a : ExchangeAccount) → IsNoCut c (Answered (Some x)) a → IsAnswerTo c x p a → part_cut c a p ≡ None
 unfolding answer_cut gathered
 is_part c x p a n k =
     no_part_cut c a x.timeout x.member p k.untimed k.part (first_none c x a (either_false (is_released a) (is_finished c a) k.unreleased k.unfinished) n.none)
@@ -68,10 +68,18 @@ no_refusal false (Fields f) e = refl
 no_refusal false (Bad n) e = absurd cc
 no_refusal false (Disallowed n) e = absurd cc
 
-pub not_refused : (c : FilterConfig) (x : Answering) (p : PartAnswer) (a : ExchangeAccount) → IsNoCut c (Answered (Some x)) a → IsAnswerTo c x p a
-    → refusal c.course p.direction (course p.direction a) p.kind p.common ≡ None
-not_refused c x p a n k =
-    no_refusal (is_spurious (kind_of p.kind) p.common (course p.direction a)) (outcome c.course p.direction (course p.direction a) p.common.headers) (is_part c x p a n k)
+pub not_refused : (c : FilterConfig) (p : PartAnswer) (a : ExchangeAccount) → part_cut c a p ≡ None → refusal c.course p.direction (course p.direction a) p.kind p.common ≡ None
+not_refused c p a e = no_refusal (is_spurious (kind_of p.kind) p.common (course p.direction a)) (outcome c.course p.direction (course p.direction a) p.common.headers) e
+
+judged_by : (b : Bool) (o : Outcome) → (if b then Some Spurious else cut_by o) ≡ cut_for (if b then Some fault.Spurious else fault_of o)
+judged_by true o = refl
+judged_by false (Fields f) = refl
+judged_by false (Bad n) = refl
+judged_by false (Disallowed n) = refl
+
+-- the half's judgement is the account's
+pub judged : (c : FilterConfig) (p : PartAnswer) (a : ExchangeAccount) → part_cut c a p ≡ cut_for (refusal c.course p.direction (course p.direction a) p.kind p.common)
+judged c p a = judged_by (is_spurious (kind_of p.kind) p.common (course p.direction a)) (outcome c.course p.direction (course p.direction a) p.common.headers)
 
 -- modes come while the headers ask is out
 pub headers_answered : (c : FilterConfig) (p : PartAnswer) (n : Option ModeNumbers) (a : ExchangeAccount) → part_cut c a p ≡ None
@@ -218,11 +226,11 @@ pub early_in : (d : Direction) (c : FilterConfig) (a : ExchangeAccount) → Held
 early_in Request c a h r e o = h.later (no_head_yet c.course a.request.course h.request r o)
 early_in Response c a h r e o = absurd cc
 
-pub no_response_yet : (c : FilterConfig) (h : List Call) (x : Answering) (p : PartAnswer) → IsHistory c h → IsNoCut c (Answered (Some x)) (account c h) → IsAnswerTo c x p (account c h)
-    → p.direction ≡ Request → is_some (override_of c p.kind x.modes) ≡ true → (course Response (account c h)).original.head ≡ None
-no_response_yet c h x p y n k e s =
+pub no_response_yet : (c : FilterConfig) (h : List Call) (p : PartAnswer) (n : Option ModeNumbers) → IsHistory c h → is_released (account c h) ≡ false → part_cut c (account c h) p ≡ None
+    → p.direction ≡ Request → is_some (override_of c p.kind n) ≡ true → (course Response (account c h)).original.head ≡ None
+no_response_yet c h p n y r k e s =
     let a : ExchangeAccount = account c h in
-    early_in p.direction c a (steady c h y).along.held k.unreleased e (headers_asked c x p a n k s)
+    early_in p.direction c a (steady c h y).along.held r e (headers_answered c p n a k s)
 
 pub other_told : (c : FilterConfig) (h : List Call) (x : Answering) (p : PartAnswer) → IsHistory c (Stepped (Answered (Some x)) ∷ h) → IsNoCut c (Answered (Some x)) (account c h) → IsAnswerTo c x p (account c h)
     → known (course (across p.direction) (account c (Stepped (Answered (Some x)) ∷ h)))
@@ -233,7 +241,7 @@ other_told c h x p y n k =
     let s : Steady c a = steady c h y.0 in
     let d : Direction = across p.direction in
     ap (λ z. known (course d z)) (step_is c x p a n k)
-    ∙ other_in p.direction c p (override_of c p.kind x.modes) a (rested d c a s n.live) (few_given c h y.0 n.live d) (no_response_yet c h x p y.0 n k)
+    ∙ other_in p.direction c p (override_of c p.kind x.modes) a (rested d c a s n.live) (few_given c h y.0 n.live d) (no_response_yet c h p x.modes y.0 k.unreleased (is_part c x p a n k))
 
 -- The asks that follow
 

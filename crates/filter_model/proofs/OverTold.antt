@@ -1,7 +1,7 @@
 -- A half that was told says whether its body is past its limit as the account does.
-use Rattle.std.proofs.Common.{sym, ◌∙◌, ap, refl, arith, length-append, subst}
+use Rattle.std.proofs.Common.{sym, ◌∙◌, ap, refl, arith, length-append}
 use Rattle.std.proofs.lemmas.List.{length-drop, take-append-drop}
-use Rattle.std.specs.Prelude.{ℕ, ◌≡◌, ◌≤◌, Bool, true, false, not, ◌&&◌, List, [], ◌∷◌, ◌++◌, length, drop, take, find, zip, Option, Some, None, if◌then◌else◌, is_some, nat_lt, option_map}
+use Rattle.std.specs.Prelude.{ℕ, ◌≡◌, ◌≤◌, Bool, true, false, not, ◌&&◌, List, [], ◌∷◌, ◌++◌, length, drop, take, find, zip, Option, Some, None, if◌then◌else◌, nat_lt, option_map}
 use Rattle.ext_msgs.specs.declared.answer.Answer.{Answer as Answering}
 use Rattle.ext_msgs.specs.declared.answer.Common.{Common}
 use Rattle.ext_msgs.specs.declared.lists.Field.{Field}

@@ -4,6 +4,8 @@ use Rattle.ext_msgs.specs.declared.answer.Answer.{Answer as Answering}
 use Rattle.ext_msgs.specs.declared.answer.Common.{Common}
 use Rattle.ext_msgs.specs.declared.lists.Field.{Field}
 use Rattle.ext_msgs.specs.declared.modes.PartModes.{PartModes}
+use Rattle.header_mutation.specs.declared.setup.HalfFault.{HalfFault}
+use Rattle.header_mutation.specs.declared.setup.HalfFault.TheVariants as fault
 use Rattle.http_model.specs.Reader.{Extends}
 use Rattle.http_model.specs.Reads.{Original}
 use Rattle.http_model.specs.declared.types.Direction.{Direction}
@@ -12,7 +14,7 @@ use Rattle.http_model.specs.declared.types.Length.{Length}
 use Rattle.filter_model.specs.Config.{CourseConfig, FilterConfig}
 use Rattle.filter_model.specs.Account.{ExchangeAccount, Flow, is_finished, is_released}
 use Rattle.filter_model.specs.Course.{Course, asked, body_room, committed, due, head_may_go}
-use Rattle.filter_model.specs.Cut.{PartAnswer, part_answer}
+use Rattle.filter_model.specs.Cut.{Cut, Gone, Malformed, PartAnswer, Refused, Spurious, part_answer}
 use Rattle.filter_model.specs.Half as half
 use Rattle.filter_model.specs.Half.{HalfCall, Answer, Settle, called}
 use Rattle.filter_model.specs.HalfRight.{MayRead}
@@ -48,6 +50,14 @@ pub record IsAnswerTo (c : FilterConfig) (x : Answering) (p : PartAnswer) (a : E
   pub part : part_answer x.member ≡ Some p
   pub unreleased : is_released a ≡ false
   pub unfinished : is_finished c a ≡ false
+
+-- the cut that a refusal is
+abbrev pub cut_for : Option HalfFault → Option Cut
+cut_for None = None
+cut_for (Some fault.Spurious) = Some Spurious
+cut_for (Some (fault.Malformed place)) = Some Malformed
+cut_for (Some (fault.Disallowed place)) = Some Refused
+cut_for (Some fault.Memory) = Some Gone
 
 -- Entries that tell nothing
 

@@ -2,6 +2,7 @@
 ghost use Rattle.ext_msgs.specs.Spelling.{ask};
 ghost use Rattle.ext_msgs.specs.declared.answer.Answer.{Answer as Answering};
 ghost use Rattle.ext_msgs.specs.declared.answer.Common.{Common};
+ghost use Rattle.ext_msgs.specs.declared.answer.ModeNumbers.{ModeNumbers};
 ghost use Rattle.ext_msgs.specs.declared.answer.Span.{Span};
 ghost use Rattle.ext_msgs.specs.declared.modes.PartModes.{PartModes};
 ghost use Rattle.filter_model.specs.Account.{ExchangeAccount, Left, Live, course, flow, from, front, gathered, given_count, is_finished, is_given, is_in, is_out_in, is_released, is_to_head, settled, to, unsent};
@@ -18,7 +19,7 @@ ghost use Rattle.filter_model.specs.Right.{Call, Stepped, Took, Headline, IsHist
 ghost use Rattle.filter_model.specs.Sound.{Sound};
 ghost use Rattle.filter_model.specs.Step.{cut, ending_of, fate_under, is_departure, is_live, step, still_counts};
 ghost use Rattle.filter_model.specs.Told.{Comes, IsLetPass, IsNoCut, IsOfProcessor, IsOfSides, IsShort, ReadWell, asks_behind, known, more_given, news, told};
-ghost use Rattle.filter_model.specs.ToldMore.{AllFit, Arrives, BringsNoAnswer, IsAnswerTo, IsOfNoSide, ReadsNothing, SameRest, across, head_news, other_calls, own_calls};
+ghost use Rattle.filter_model.specs.ToldMore.{AllFit, Arrives, BringsNoAnswer, IsAnswerTo, IsOfNoSide, ReadsNothing, SameRest, across, cut_for, head_news, other_calls, own_calls};
 ghost use Rattle.filter_model.specs.View.{ViewEntry, Answered, Given, Lost, Sent, Starved};
 ghost use Rattle.filter_model.specs.declared.calls.Loss.{Loss};
 ghost use Rattle.filter_model.specs.declared.calls.Side.{Side};
@@ -29,7 +30,7 @@ ghost use Rattle.http_model.specs.declared.types.Direction.{Direction};
 ghost use Rattle.http_model.specs.declared.types.Direction.TheVariants.{Request, Response};
 ghost use Rattle.http_model.specs.declared.types.Out.{Out};
 ghost use Rattle.std.specs.List.{list_any};
-ghost use Rattle.std.specs.Prelude.{None, Some, is_some, Bool, List, [], map, reverse, filter_map, true, false, ◌∷◌, ◌++◌, ◌≡◌, ◌≤◌, ◌+◌, ◌-◌, ◌⊎◌, ℕ, drop, length, take, if◌then◌else◌};
+ghost use Rattle.std.specs.Prelude.{None, Option, Some, is_some, Bool, List, [], map, reverse, filter_map, true, false, ◌∷◌, ◌++◌, ◌≡◌, ◌≤◌, ◌+◌, ◌-◌, ◌⊎◌, ℕ, drop, length, take, if◌then◌else◌};
 
 /// In every history the asks that went out are the first of those made, in order.
 pub fn asks_in_order()
@@ -247,9 +248,10 @@ pub fn at_rest()
 {}
 
 /// An answer to a part that is no cut, while answers count: its direction is told the modes that it brings, while the
-/// headers ask is out, and then the answer, which isn't refused. The response is told the modes that an answer to the
-/// request's headers brings for it, before its head. The asks that follow are those of the halves, the request's first.
-/// The timer of its direction starts anew, and that of the other one starts where no ask was out.
+/// headers ask is out, and then the answer, which its half doesn't refuse; where it does, that is the cut. The response
+/// is told the modes that an answer to the request's headers brings for it, before its head. The asks that follow are
+/// those of the halves, the request's first. The timer of its direction starts anew, and that of the other one starts
+/// where no ask was out.
 pub fn answer_told()
     ensures own { (c : FilterConfig) (h : List Call) (x : Answering) (p : PartAnswer) →
         IsHistory c (Stepped (Answered (Some x)) ∷ h) → IsNoCut c (Answered (Some x)) (account c h)
@@ -267,15 +269,18 @@ pub fn answer_told()
         IsNoCut c (Answered (Some x)) a → IsAnswerTo c x p a → (step c (Answered (Some x)) a).made
         ≡ (a.made ++ asks_behind Request (course Request a) (course Request (step c (Answered (Some x)) a)))
         ++ asks_behind Response (course Response a) (course Response (step c (Answered (Some x)) a)) }
-    ensures accepted { (c : FilterConfig) (x : Answering) (p : PartAnswer) (a : ExchangeAccount) →
-        IsNoCut c (Answered (Some x)) a → IsAnswerTo c x p a
+    ensures judged { (c : FilterConfig) (p : PartAnswer) (a : ExchangeAccount) → part_cut c a p
+        ≡ cut_for (refusal c.course p.direction (course p.direction a) p.kind p.common) }
+    ensures part { (c : FilterConfig) (x : Answering) (p : PartAnswer) (a : ExchangeAccount) →
+        IsNoCut c (Answered (Some x)) a → IsAnswerTo c x p a → part_cut c a p ≡ None }
+    ensures accepted { (c : FilterConfig) (p : PartAnswer) (a : ExchangeAccount) → part_cut c a p ≡ None
         → refusal c.course p.direction (course p.direction a) p.kind p.common ≡ None }
-    ensures settles { (c : FilterConfig) (x : Answering) (p : PartAnswer) (a : ExchangeAccount) →
-        IsNoCut c (Answered (Some x)) a → IsAnswerTo c x p a → is_some (override_of c p.kind x.modes) ≡ true
+    ensures settles { (c : FilterConfig) (p : PartAnswer) (n : Option ModeNumbers) (a : ExchangeAccount) →
+        part_cut c a p ≡ None → is_some (override_of c p.kind n) ≡ true
         → list_any is_headers (out (course p.direction a)) ≡ true }
-    ensures early { (c : FilterConfig) (h : List Call) (x : Answering) (p : PartAnswer) → IsHistory c h
-        → IsNoCut c (Answered (Some x)) (account c h) → IsAnswerTo c x p (account c h) → p.direction ≡ Request
-        → is_some (override_of c p.kind x.modes) ≡ true → (course Response (account c h)).original.head ≡ None }
+    ensures early { (c : FilterConfig) (h : List Call) (p : PartAnswer) (n : Option ModeNumbers) → IsHistory c h
+        → is_released (account c h) ≡ false → part_cut c (account c h) p ≡ None → p.direction ≡ Request
+        → is_some (override_of c p.kind n) ≡ true → (course Response (account c h)).original.head ≡ None }
     ensures timer { (c : FilterConfig) (x : Answering) (p : PartAnswer) (a : ExchangeAccount) →
         IsNoCut c (Answered (Some x)) a → IsAnswerTo c x p a
         → ((flow p.direction (step c (Answered (Some x)) a)).deadline ≡ a.now + c.timeout_ms)
