@@ -1,7 +1,8 @@
 -- What the halves are told of an answer, and of which entries they are told nothing.
-use Rattle.std.specs.Prelude.{◌≡◌, ◌≤◌, true, false, List, [], ◌∷◌, length, Option, Some, None}
+use Rattle.std.specs.Prelude.{◌≡◌, ◌≤◌, ◌⊎◌, true, false, List, [], ◌∷◌, length, Option, Some, None}
 use Rattle.ext_msgs.specs.declared.answer.Answer.{Answer as Answering}
 use Rattle.ext_msgs.specs.declared.answer.Common.{Common}
+use Rattle.ext_msgs.specs.declared.answer.Span.{Span}
 use Rattle.ext_msgs.specs.declared.lists.Field.{Field}
 use Rattle.ext_msgs.specs.declared.modes.PartModes.{PartModes}
 use Rattle.header_mutation.specs.declared.setup.HalfFault.{HalfFault}
@@ -77,6 +78,18 @@ IsOfNoSide NoStream = Unit {0}
 IsOfNoSide (Tick n) = Unit {0}
 IsOfNoSide Starved = Unit {0}
 IsOfNoSide _ = ⊥
+
+-- the stream gives no more answers
+abbrev pub EndsStream : ViewEntry → Type 0
+EndsStream TooLong = Unit {0}
+EndsStream (Closed clean) = Unit {0}
+EndsStream NoStream = Unit {0}
+EndsStream _ = ⊥
+
+-- an answer has a timeout override, or is one to a part
+abbrev pub IsTaken : FilterConfig → ExchangeAccount → Option Answering → Type 0
+IsTaken c a None = ⊥
+IsTaken c a (Some x) = ((t : Span) × (x.timeout ≡ Some t)) ⊎ ((p : PartAnswer) × IsAnswerTo c x p a)
 
 -- News
 

@@ -19,7 +19,7 @@ ghost use Rattle.filter_model.specs.Right.{Call, Stepped, Took, Headline, IsHist
 ghost use Rattle.filter_model.specs.Sound.{Sound};
 ghost use Rattle.filter_model.specs.Step.{cut, ending_of, fate_under, is_departure, is_live, step, still_counts};
 ghost use Rattle.filter_model.specs.Told.{Comes, IsLetPass, IsNoCut, IsOfProcessor, IsOfSides, IsShort, ReadWell, asks_behind, known, more_given, news, told};
-ghost use Rattle.filter_model.specs.ToldMore.{AllFit, Arrives, BringsNoAnswer, IsAnswerTo, IsOfNoSide, ReadsNothing, SameRest, across, cut_for, head_news, other_calls, own_calls};
+ghost use Rattle.filter_model.specs.ToldMore.{AllFit, Arrives, BringsNoAnswer, EndsStream, IsAnswerTo, IsOfNoSide, IsTaken, ReadsNothing, SameRest, across, cut_for, head_news, other_calls, own_calls};
 ghost use Rattle.filter_model.specs.View.{ViewEntry, Answered, Given, Lost, Sent, Starved};
 ghost use Rattle.filter_model.specs.declared.calls.Loss.{Loss};
 ghost use Rattle.filter_model.specs.declared.calls.Side.{Side};
@@ -296,7 +296,8 @@ pub fn answer_told()
 /// Once the rest passes or all was given, an entry of the processor or of time, or want of memory, that is no cut tells
 /// the halves nothing; before, an answer with a timeout override tells them nothing. Both courses stay, and no ask
 /// follows. A timer starts where no ask is out, and the override starts it anew, once for each ask. Want of memory is
-/// no cut only when all was given.
+/// no cut only when all was given, and an end of the stream only then or once the rest passes. Before, an answer that is
+/// no cut has a timeout override or is one to a part.
 pub fn nothing_told()
     ensures idle { (c : FilterConfig) (h : List Call) (e : ViewEntry) → IsHistory c (Stepped e ∷ h) → IsOfNoSide e
         → IsNoCut c e (account c h) → (is_released (account c h) ≡ true) ⊎ (is_finished c (account c h) ≡ true)
@@ -323,6 +324,10 @@ pub fn nothing_told()
         ≡ (if is_out_in a d then (flow d (extended_by c t a)).deadline else a.now + c.timeout_ms))
         × ((flow d (step c (Answered (Some x)) a)).extended ≡ (flow d (extended_by c t a)).extended) }
     ensures starved { (c : FilterConfig) (a : ExchangeAccount) → IsNoCut c Starved a → is_finished c a ≡ true }
+    ensures ends { (c : FilterConfig) (e : ViewEntry) (a : ExchangeAccount) → EndsStream e → IsNoCut c e a
+        → (is_released a ≡ true) ⊎ (is_finished c a ≡ true) }
+    ensures taken { (c : FilterConfig) (x : Option Answering) (a : ExchangeAccount) → IsNoCut c (Answered x) a
+        → is_released a ≡ false → is_finished c a ≡ false → IsTaken c a x }
 {}
 
 /// Each call that tells a half what its side brings may be told where it comes: the head once, behind it body bytes
