@@ -4,6 +4,7 @@ use Rattle.std.specs.Prelude.{ℕ, ◌≡◌, ◌+◌, ◌≤◌, Bool, true, fa
 use Rattle.std.specs.List.{list_any}
 use Rattle.ext_msgs.specs.declared.answer.Answer.{Answer as Answering}
 use Rattle.ext_msgs.specs.declared.answer.Common.{Common}
+use Rattle.ext_msgs.specs.declared.answer.ModeNumbers.{ModeNumbers}
 use Rattle.ext_msgs.specs.declared.lists.Field.{Field}
 use Rattle.ext_msgs.specs.declared.modes.PartModes.{PartModes}
 use Rattle.header_mutation.specs.Mutated.{Outcome, Fields, Bad, Disallowed}
@@ -21,7 +22,11 @@ use Rattle.filter_model.specs.Right.{Call, Stepped, IsHistory, account}
 use Rattle.filter_model.specs.Sound.{Sound}
 use Rattle.filter_model.specs.Step.{accepted, after, no_cut, on, step, step_if, under_cut, with_ending}
 use Rattle.filter_model.specs.Told.{IsNoCut, asks_behind, known, told}
+<<<<<<< HEAD
 use Rattle.filter_model.specs.ToldMore.{IsAnswerTo, across, other_calls, own_calls}
+=======
+use Rattle.filter_model.specs.ToldMore.{IsAnswerTo, across, cut_for, other_calls, own_calls}
+>>>>>>> 12e9210e9123e920905634aa60edf0d2ec3ac906
 use Rattle.filter_model.specs.View.{Answered}
 use Rattle.filter_model.proofs.AtRest.{Rested, Steady, steady}
 use Rattle.filter_model.proofs.Known.{asked_known, committed_known}
@@ -41,7 +46,7 @@ either_false true y e f = absurd cc
 either_false false y e f = f
 
 -- with an answer joined to its direction's
-abbrev Joined : FilterConfig → Direction → PartAnswer → Option (PartModes × PartModes) → ExchangeAccount → ExchangeAccount
+abbrev pub Joined : FilterConfig → Direction → PartAnswer → Option (PartModes × PartModes) → ExchangeAccount → ExchangeAccount
 Joined c d p m a = overridden d m (joined c (record p { direction = d }) a)
 
 step_is : (c : FilterConfig) (x : Answering) (p : PartAnswer) (a : ExchangeAccount) → IsNoCut c (Answered (Some x)) a → IsAnswerTo c x p a
@@ -56,7 +61,7 @@ step_is c x p a n k =
 
 -- What the answer says of its direction
 
-is_part : (c : FilterConfig) (x : Answering) (p : PartAnswer) (a : ExchangeAccount) → IsNoCut c (Answered (Some x)) a → IsAnswerTo c x p a → part_cut c a p ≡ None
+pub is_part : (c : FilterConfig) (x : Answering) (p : PartAnswer) (a : ExchangeAccount) → IsNoCut c (Answered (Some x)) a → IsAnswerTo c x p a → part_cut c a p ≡ None
 unfolding answer_cut gathered
 is_part c x p a n k =
     no_part_cut c a x.timeout x.member p k.untimed k.part (first_none c x a (either_false (is_released a) (is_finished c a) k.unreleased k.unfinished) n.none)
@@ -67,19 +72,31 @@ no_refusal false (Fields f) e = refl
 no_refusal false (Bad n) e = absurd cc
 no_refusal false (Disallowed n) e = absurd cc
 
-pub not_refused : (c : FilterConfig) (x : Answering) (p : PartAnswer) (a : ExchangeAccount) → IsNoCut c (Answered (Some x)) a → IsAnswerTo c x p a
-    → refusal c.course p.direction (course p.direction a) p.kind p.common ≡ None
-not_refused c x p a n k =
-    no_refusal (is_spurious (kind_of p.kind) p.common (course p.direction a)) (outcome c.course p.direction (course p.direction a) p.common.headers) (is_part c x p a n k)
+pub not_refused : (c : FilterConfig) (p : PartAnswer) (a : ExchangeAccount) → part_cut c a p ≡ None → refusal c.course p.direction (course p.direction a) p.kind p.common ≡ None
+not_refused c p a e = no_refusal (is_spurious (kind_of p.kind) p.common (course p.direction a)) (outcome c.course p.direction (course p.direction a) p.common.headers) e
+
+judged_by : (b : Bool) (o : Outcome) → (if b then Some Spurious else cut_by o) ≡ cut_for (if b then Some fault.Spurious else fault_of o)
+judged_by true o = refl
+judged_by false (Fields f) = refl
+judged_by false (Bad n) = refl
+judged_by false (Disallowed n) = refl
+
+-- the half's judgement is the account's
+pub judged : (c : FilterConfig) (p : PartAnswer) (a : ExchangeAccount) → part_cut c a p ≡ cut_for (refusal c.course p.direction (course p.direction a) p.kind p.common)
+judged c p a = judged_by (is_spurious (kind_of p.kind) p.common (course p.direction a)) (outcome c.course p.direction (course p.direction a) p.common.headers)
 
 -- modes come while the headers ask is out
+pub headers_answered : (c : FilterConfig) (p : PartAnswer) (n : Option ModeNumbers) (a : ExchangeAccount) → part_cut c a p ≡ None
+    → is_some (override_of c p.kind n) ≡ true → list_any is_headers (out (course p.direction a)) ≡ true
+unfolding Answers
+headers_answered c p n a k s =
+    let w : Course = course p.direction a in
+    let l : Answers (kind_of p.kind) (out w) = answers_one (kind_of p.kind) _ (out w) _ k in
+    headers_out w l.0 l.1 l.2 (kind_of_headers p.kind l.0 (override_kind c p.kind n s) l.3)
+
 pub headers_asked : (c : FilterConfig) (x : Answering) (p : PartAnswer) (a : ExchangeAccount) → IsNoCut c (Answered (Some x)) a → IsAnswerTo c x p a
     → is_some (override_of c p.kind x.modes) ≡ true → list_any is_headers (out (course p.direction a)) ≡ true
-unfolding Answers
-headers_asked c x p a n k s =
-    let w : Course = course p.direction a in
-    let l : Answers (kind_of p.kind) (out w) = answers_one (kind_of p.kind) _ (out w) _ (is_part c x p a n k) in
-    headers_out w l.0 l.1 l.2 (kind_of_headers p.kind l.0 (override_kind c p.kind x.modes s) l.3)
+headers_asked c x p a n k s = headers_answered c p x.modes a (is_part c x p a n k) s
 
 head_there : (c : CourseConfig) (w : Course) → Sound c w → list_any is_headers (out w) ≡ true → is_some w.original.head ≡ true
 head_there c w s e = by w.original.head refl
@@ -158,7 +175,7 @@ modes_told c d w modes a front given r few s u e =
     ∙ ap (λ m. asked c d (committed c d (known (record w { answers = w.answers ++ a ∷ []; modes = m })))) (sym (behind_is w.original.head w.modes modes h))
     ∙ sym (answer_at_once c d (known w) modes a (known_sound c w s) u h e)
 
-own_in : (d : Direction) (c : FilterConfig) (p : PartAnswer) (m : Option (PartModes × PartModes)) (a : ExchangeAccount) → Sound c.course (course d a)
+pub own_in : (d : Direction) (c : FilterConfig) (p : PartAnswer) (m : Option (PartModes × PartModes)) (a : ExchangeAccount) → Sound c.course (course d a)
     → Rested c.course d (course d a) (front d a) (flow d a).given → ((course d a).head ≡ None → length (flow d a).given ≤ length (front d a)) → (course d a).released ≡ false
     → (is_some m ≡ true → list_any is_headers (out (course d a)) ≡ true)
     → known (course d (Ends c (Joined c d p m a))) ≡ told c.course d (own_calls d m p.common) (known (course d a))
@@ -179,7 +196,7 @@ settle_told c d w modes front given r few n =
     known_after c d w w.answers modes front given r few
     ∙ ap (λ o. asked c d (committed c d (known (record w { modes = settled_modes o w.modes modes })))) (sym n)
 
-other_in : (d : Direction) (c : FilterConfig) (p : PartAnswer) (m : Option (PartModes × PartModes)) (a : ExchangeAccount)
+pub other_in : (d : Direction) (c : FilterConfig) (p : PartAnswer) (m : Option (PartModes × PartModes)) (a : ExchangeAccount)
     → Rested c.course (across d) (course (across d) a) (front (across d) a) (flow (across d) a).given
     → ((course (across d) a).head ≡ None → length (flow (across d) a).given ≤ length (front (across d) a))
     → (d ≡ Request → is_some m ≡ true → (course Response a).original.head ≡ None)
@@ -192,7 +209,7 @@ other_in Response c p (Some m) a r few e = ap known (course_is c Request (Joined
 
 -- Along a history
 
-unreleased_in : (d : Direction) (c : FilterConfig) (a : ExchangeAccount) → Held c a → is_released a ≡ false → (course d a).released ≡ false
+pub unreleased_in : (d : Direction) (c : FilterConfig) (a : ExchangeAccount) → Held c a → is_released a ≡ false → (course d a).released ≡ false
 unreleased_in Request c a h r = r
 unreleased_in Response c a h r = h.both ∙ r
 
@@ -209,15 +226,15 @@ own_told c h x p y n k =
     (headers_asked c x p a n k)
 
 -- the response's head isn't there before the request's has gone
-early_in : (d : Direction) (c : FilterConfig) (a : ExchangeAccount) → Held c a → is_released a ≡ false → d ≡ Request → list_any is_headers (out (course d a)) ≡ true → (course Response a).original.head ≡ None
+pub early_in : (d : Direction) (c : FilterConfig) (a : ExchangeAccount) → Held c a → is_released a ≡ false → d ≡ Request → list_any is_headers (out (course d a)) ≡ true → (course Response a).original.head ≡ None
 early_in Request c a h r e o = h.later (no_head_yet c.course a.request.course h.request r o)
 early_in Response c a h r e o = absurd cc
 
-pub no_response_yet : (c : FilterConfig) (h : List Call) (x : Answering) (p : PartAnswer) → IsHistory c h → IsNoCut c (Answered (Some x)) (account c h) → IsAnswerTo c x p (account c h)
-    → p.direction ≡ Request → is_some (override_of c p.kind x.modes) ≡ true → (course Response (account c h)).original.head ≡ None
-no_response_yet c h x p y n k e s =
+pub no_response_yet : (c : FilterConfig) (h : List Call) (p : PartAnswer) (n : Option ModeNumbers) → IsHistory c h → is_released (account c h) ≡ false → part_cut c (account c h) p ≡ None
+    → p.direction ≡ Request → is_some (override_of c p.kind n) ≡ true → (course Response (account c h)).original.head ≡ None
+no_response_yet c h p n y r k e s =
     let a : ExchangeAccount = account c h in
-    early_in p.direction c a (steady c h y).along.held k.unreleased e (headers_asked c x p a n k s)
+    early_in p.direction c a (steady c h y).along.held r e (headers_answered c p n a k s)
 
 pub other_told : (c : FilterConfig) (h : List Call) (x : Answering) (p : PartAnswer) → IsHistory c (Stepped (Answered (Some x)) ∷ h) → IsNoCut c (Answered (Some x)) (account c h) → IsAnswerTo c x p (account c h)
     → known (course (across p.direction) (account c (Stepped (Answered (Some x)) ∷ h)))
@@ -228,7 +245,7 @@ other_told c h x p y n k =
     let s : Steady c a = steady c h y.0 in
     let d : Direction = across p.direction in
     ap (λ z. known (course d z)) (step_is c x p a n k)
-    ∙ other_in p.direction c p (override_of c p.kind x.modes) a (rested d c a s n.live) (few_given c h y.0 n.live d) (no_response_yet c h x p y.0 n k)
+    ∙ other_in p.direction c p (override_of c p.kind x.modes) a (rested d c a s n.live) (few_given c h y.0 n.live d) (no_response_yet c h p x.modes y.0 k.unreleased (is_part c x p a n k))
 
 -- The asks that follow
 

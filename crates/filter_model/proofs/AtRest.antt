@@ -82,7 +82,7 @@ asked-original : (c : CourseConfig) (d : Direction) (w : Course) → (asked c d 
 unfolding asked one_asked
 asked-original c d w = refl
 
-asked-head : (c : CourseConfig) (d : Direction) (w : Course) → (asked c d w).head ≡ w.head
+pub asked-head : (c : CourseConfig) (d : Direction) (w : Course) → (asked c d w).head ≡ w.head
 unfolding asked one_asked
 asked-head c d w = refl
 

@@ -121,7 +121,7 @@ release_grows c d w f = by_kept c d w (with_released w) refl refl (λ h e r. rel
 abbrev pub with_answer : Common → Course → Course
 with_answer a w = record w { answers = w.answers ++ a ∷ [] }
 
-zip_none : {A B : Type 0} (xs : List A) → zip {X = B} xs [] ≡ []
+pub zip_none : {A B : Type 0} (xs : List A) → zip {X = B} xs [] ≡ []
 zip_none [] = refl
 zip_none (x ∷ xs) = refl
 

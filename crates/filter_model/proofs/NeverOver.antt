@@ -39,7 +39,7 @@ clash e = cc
 
 -- Heads and asks change nothing of it
 
-abbrev over_at : CourseConfig → Course → Option Common → Bool
+abbrev pub over_at : CourseConfig → Course → Option Common → Bool
 over_at c w x =
     (is_some w.original.head && (w.released || not w.modes.headers || is_some x)) && is_buffered (mode_at w.released x w.modes.body)
     && nat_lt c.buffer_limit (length w.original.body)
@@ -53,7 +53,7 @@ one_counted : (c : CourseConfig) (d : Direction) (w : Course) → length w.answe
 unfolding one_asked
 one_counted c d w n = let e = length-append w.asks (due c d w) in omega (arith, n, e)
 
-asked_over : (c : CourseConfig) (d : Direction) (w : Course) → length w.answers ≤ length w.asks → is_over c (asked c d w) ≡ is_over c w
+pub asked_over : (c : CourseConfig) (d : Direction) (w : Course) → length w.answers ≤ length w.asks → is_over c (asked c d w) ≡ is_over c w
 unfolding asked
 asked_over c d w n =
     let w1 : Course = one_asked c d w in

@@ -4,6 +4,8 @@ use Rattle.std.proofs.Common.{inl, inr, sym, ◌∙◌, ap, append-nil, refl, ar
 use Rattle.std.proofs.lemmas.List.{drop_all}
 use Rattle.std.specs.Prelude.{◌≡◌, ◌⊎◌, ◌+◌, Bool, true, false, not, ◌||◌, List, [], ◌∷◌, ◌++◌, length, map, Option, Some, None, if◌then◌else◌}
 use Rattle.ext_msgs.specs.declared.answer.Answer.{Answer as Answering}
+use Rattle.ext_msgs.specs.declared.answer.Member.{Member}
+use Rattle.ext_msgs.specs.declared.answer.Member.TheVariants as member
 use Rattle.ext_msgs.specs.declared.answer.Span.{Span}
 use Rattle.http_model.specs.Bytes.{is_empty}
 use Rattle.http_model.specs.declared.types.Direction.{Direction}
@@ -12,14 +14,15 @@ use Rattle.filter_model.specs.Config.{FilterConfig}
 use Rattle.filter_model.specs.Course.{Course, asked, committed, out}
 use Rattle.filter_model.specs.Account.{ExchangeAccount, counted_course, course, flow, front, gathered, is_finished, is_given, is_out_in, is_released, settled}
 use Rattle.filter_model.specs.Answers.{answered, answered_by, ask_of, asked_in, extended_by}
-use Rattle.filter_model.specs.Cut.{Cut, Gone, over_cut, peer_cut, processor_cut}
+use Rattle.filter_model.specs.Cut.{Clean, Cut, Failed, Gone, LongAnswer, Malformed, PartAnswer, Unopened, answer_cut, answer_cut_at, over_cut, part_answer, peer_cut, processor_cut}
 use Rattle.filter_model.specs.Right.{Call, Stepped, IsHistory, account}
 use Rattle.filter_model.specs.Step.{accepted, after, cut, cut_at, no_cut, on, step, step_if, under_cut, under_departure, with_ending}
 use Rattle.filter_model.specs.Told.{IsNoCut, asks_behind}
-use Rattle.filter_model.specs.ToldMore.{IsOfNoSide}
+use Rattle.filter_model.specs.ToldMore.{EndsStream, IsOfNoSide, IsTaken}
 use Rattle.filter_model.specs.View.{ViewEntry, Answered, TooLong, Closed, NoStream, Tick, Starved}
 use Rattle.filter_model.proofs.AnswerTold.{Ends, either_false}
 use Rattle.filter_model.proofs.AtRest.{Rested, steady}
+use Rattle.filter_model.proofs.StepGrows.{first_none}
 use Rattle.filter_model.proofs.ToldEntry.{course_is, made_is, rested, same_count}
 use Rattle.filter_model.proofs.ToldSame.{asked_none, committed_none}
 
@@ -183,3 +186,50 @@ gone_unless false false None e = absurd cc
 pub starved_last : (c : FilterConfig) (a : ExchangeAccount) → IsNoCut c Starved a → is_finished c a ≡ true
 unfolding cut processor_cut peer_cut gathered
 starved_last c a n = gone_unless (is_finished c a) (is_released a) (over_cut c (answered c Starved a)) n.none
+
+-- What else is no cut
+
+processor_none : (f r : Bool) (k : Cut) (over peer : Option Cut) → cut_at f r (Some k) over peer ≡ None → (r ≡ true) ⊎ (f ≡ true)
+processor_none true r k over peer e = inr refl
+processor_none false true k over peer e = inl refl
+processor_none false false k over peer e = absurd cc
+
+late_by : (c : FilterConfig) (e : ViewEntry) (g : ExchangeAccount) (k : Cut) → processor_cut c g e ≡ Some k → cut c e g ≡ None → (is_released g ≡ true) ⊎ (is_finished c g ≡ true)
+unfolding cut
+late_by c e g k i n =
+    processor_none (is_finished c g) (is_released g) k (over_cut c (answered c e g)) (peer_cut c g e)
+    (ap (λ q. cut_at (is_finished c g) (is_released g) q (over_cut c (answered c e g)) (peer_cut c g e)) (sym i) ∙ n)
+
+pub ends_late : (c : FilterConfig) (e : ViewEntry) (a : ExchangeAccount) → EndsStream e → IsNoCut c e a → (is_released a ≡ true) ⊎ (is_finished c a ≡ true)
+unfolding processor_cut gathered is_finished is_given
+ends_late c TooLong a s n = late_by c TooLong (gathered TooLong a) LongAnswer refl n.none
+ends_late c (Closed true) a s n = late_by c (Closed true) (gathered (Closed true) a) Clean refl n.none
+ends_late c (Closed false) a s n = late_by c (Closed false) (gathered (Closed false) a) Failed refl n.none
+ends_late c NoStream a s n = late_by c NoStream (gathered NoStream a) Unopened refl n.none
+ends_late c _ a s n = absurd s
+
+pub is_taken : (c : FilterConfig) (x : Option Answering) (a : ExchangeAccount) → IsNoCut c (Answered x) a → is_released a ≡ false → is_finished c a ≡ false → IsTaken c a x
+unfolding processor_cut answer_cut gathered
+is_taken c None a n r f = never (late_by c (Answered None) (gathered (Answered None) a) Malformed refl n.none)
+  where
+    clash : {A : Type 0} → true ≡ false → A
+    clash e = cc
+
+    never : (is_released a ≡ true) ⊎ (is_finished c a ≡ true) → ⊥
+    never (inl e) = clash (sym e ∙ r)
+    never (inr e) = clash (sym e ∙ f)
+is_taken c (Some x) a n r f = by x.timeout x.member refl refl (first_none c x a (either_false (is_released a) (is_finished c a) r f) n.none)
+  where
+    of_part : (m : Member) (p : PartAnswer) → x.timeout ≡ None → x.member ≡ m → part_answer m ≡ Some p → IsTaken c a (Some x)
+    of_part m p t i e = inr (p, record { untimed = t; part = ap part_answer i ∙ e; unreleased = r; unfinished = f })
+
+    by : (t : Option Span) (m : Member) → x.timeout ≡ t → x.member ≡ m → answer_cut_at c a t m ≡ None → IsTaken c a (Some x)
+    by (Some t) m i j e = inl (t, i)
+    by None member.Unset i j e = absurd cc
+    by None (member.Immediate k) i j e = absurd cc
+    by None (member.RequestHeaders k) i j e = of_part (member.RequestHeaders k) _ i j refl
+    by None (member.ResponseHeaders k) i j e = of_part (member.ResponseHeaders k) _ i j refl
+    by None (member.RequestBody k) i j e = of_part (member.RequestBody k) _ i j refl
+    by None (member.ResponseBody k) i j e = of_part (member.ResponseBody k) _ i j refl
+    by None (member.RequestTrailers k) i j e = of_part (member.RequestTrailers k) _ i j refl
+    by None (member.ResponseTrailers k) i j e = of_part (member.ResponseTrailers k) _ i j refl

@@ -20,7 +20,8 @@ use Rattle.filter_model.specs.Step.{accepted, no_cut, under_cut, under_departure
 use Rattle.filter_model.specs.View.{ViewEntry, Bytes, End, Lost, Tick}
 use Rattle.filter_model.specs.declared.calls.Side.TheVariants.{Client, Upstream}
 use Rattle.filter_model.specs.Sound.{Sound}
-use Rattle.filter_model.specs.Told.{IsNoCut, IsOfSides, IsShort, ReadWell, asks_behind, known, news, told}
+use Rattle.filter_model.specs.ToldMore.{Arrives}
+use Rattle.filter_model.specs.Told.{Comes, IsNoCut, IsOfSides, IsShort, ReadWell, asks_behind, known, news, told}
 use Rattle.filter_model.proofs.Growing.{wire_none}
 use Rattle.filter_model.proofs.CourseGrows.{changed_none}
 use Rattle.filter_model.proofs.StepGrows.{Held, ReadsOn}
@@ -53,7 +54,7 @@ step_is c e a s n =
 abbrev now : Direction → ViewEntry → ExchangeAccount → Original
 now d e a = (course d (gathered e a)).original
 
-reads_alone : (d : Direction) (e : ViewEntry) (a : ExchangeAccount) → IsOfSides e
+pub reads_alone : (d : Direction) (e : ViewEntry) (a : ExchangeAccount) → IsOfSides e
     → (course d (gathered e a) ≡ record (course d a) { original = now d e a }) × ((flow d (gathered e a)).given ≡ (flow d a).given)
 unfolding gathered brought
 reads_alone Request (Bytes Client bytes) a s = (refl, refl)
@@ -72,7 +73,7 @@ reads_alone Response (Lost Upstream how) a s = (refl, refl)
 reads_alone Response (Tick n) a s = (refl, refl)
 reads_alone d _ a s = absurd s
 
-before_well : (d : Direction) (a : ExchangeAccount) → Read a → ReadWell (course d a).original
+pub before_well : (d : Direction) (a : ExchangeAccount) → Read a → ReadWell (course d a).original
 before_well Request a r = subst ReadWell (sym r.request) (reads_well Request (is_to_head a) a.request.brought a.request.ended)
 before_well Response a r = subst ReadWell (sym r.response) (reads_well Response (is_to_head a) a.response.brought a.response.ended)
 
@@ -297,6 +298,45 @@ committed_given : (c : CourseConfig) (d : Direction) (w : Course) → (committed
 unfolding committed
 committed_given c d w = refl
 
+-- it comes as a half may be told of it
+pub arrives_on : (c : FilterConfig) (h : List Call) (e : ViewEntry) → IsHistory c (Stepped e ∷ h) → IsOfSides e → is_live (account c h).fate ≡ true → c.course.piece ≤ c.course.mark → (d : Direction)
+    → IsShort c (course d (account c h)) (course d (gathered e (account c h))) → Arrives c.course d (course d (account c h)) (course d (gathered e (account c h))).original
+arrives_on c h e y s l z d q =
+    let a : ExchangeAccount = account c h in
+    let k : Steady c a = steady c h y.0 in
+    let x = reads_on c e a k.along.read k.along.held (fits c h e y.1) in
+    let r : Rested c.course d (course d a) (front d a) (flow d a).given = rested d c a k l in
+    record {
+      sound = sound_in d c a k.along.held;
+      chosen = r.chosen;
+      asked = r.asked;
+      extends = extends_in d e a x;
+      before = before_well d a k.along.read;
+      after = after_well d e a s k.along.read;
+      short = q;
+      sizes = z;
+    }
+
+pub comes_of : (c : CourseConfig) (d : Direction) (w : Course) (now : Original) → Arrives c d w now → (w.original.head ≡ None → is_over c (record w { original = now }) ≡ false) → Comes c d w now
+comes_of c d w now x k = record {
+  sound = x.sound;
+  chosen = x.chosen;
+  asked = x.asked;
+  extends = x.extends;
+  before = x.before;
+  after = x.after;
+  short = x.short;
+  within = k;
+  sizes = x.sizes;
+}
+
+pub comes_on : (c : FilterConfig) (h : List Call) (e : ViewEntry) → IsHistory c (Stepped e ∷ h) → IsOfSides e → IsNoCut c e (account c h) → c.course.piece ≤ c.course.mark → (d : Direction)
+    → IsShort c (course d (account c h)) (course d (gathered e (account c h))) → Comes c.course d (course d (account c h)) (course d (gathered e (account c h))).original
+comes_on c h e y s n z d q =
+    let a : ExchangeAccount = account c h in
+    let k : Steady c a = steady c h y.0 in
+    comes_of c.course d (course d a) (now d e a) (arrives_on c h e y s n.live z d q) (λ u. within c e a d k.along.held s n ((sound_in d c a k.along.held).head_read u).0)
+
 pub entry_told : (c : FilterConfig) (h : List Call) (e : ViewEntry) → IsHistory c (Stepped e ∷ h) → IsOfSides e → IsNoCut c e (account c h) → c.course.piece ≤ c.course.mark → (d : Direction)
     → IsShort c (course d (account c h)) (course d (gathered e (account c h)))
     → known (course d (account c (Stepped e ∷ h)))
@@ -307,24 +347,13 @@ entry_told c h e y s n z d q =
     let k : Steady c a = steady c h y.0 in
     let v : Course = record (course d a) { original = now d e a } in
     let x = reads_on c e a k.along.read k.along.held (fits c h e y.1) in
-    let r : Rested c.course d (course d a) (front d a) (flow d a).given = rested d c a k n.live in
     ap known
     (ap (course d) (step_is c e a s n) ∙ course_is c d (gathered e a)
     ∙ ap (λ w. asked c.course d (counted_course d (front d (gathered e a)) (flow d (gathered e a)).given (committed c.course d w))) (reads_alone d e a s).0
     ∙ ap (asked c.course d)
     (same_count d (front d (gathered e a)) (flow d (gathered e a)).given (committed c.course d v)
     (counted c h e d y.0 s n.live (extends_in Request e a x) ∙ sym (committed_given c.course d v))))
-    ∙ sym (told_reading c.course d (course d a) (now d e a) (record {
-      sound = sound_in d c a k.along.held;
-      chosen = r.chosen;
-      asked = r.asked;
-      extends = extends_in d e a x;
-      before = before_well d a k.along.read;
-      after = after_well d e a s k.along.read;
-      short = q;
-      within = λ u. within c e a d k.along.held s n ((sound_in d c a k.along.held).head_read u).0;
-      sizes = z;
-    }))
+    ∙ sym (told_reading c.course d (course d a) (now d e a) (comes_on c h e y s n z d q))
 
 -- the request's asks go first
 pub made_is : (c : FilterConfig) (x : ExchangeAccount) → let a : ExchangeAccount = with_ending c (asked_in c Response (asked_in c Request (settled c x))) in

@@ -32,7 +32,7 @@ pub asked_again : (c : CourseConfig) (d : Direction) (w : Course) → length w.a
 unfolding asked
 asked_again c d w n = none_made c d (asked c d w) (asked_all c d w n)
 
-kept_head : {A B : Type 0} (x : Option B) (b : Bool) (f : A → B) (o : Option A) → (x ≡ None → b ≡ true → o ≡ None) → (if is_none x && b then option_map f o else x) ≡ x
+pub kept_head : {A B : Type 0} (x : Option B) (b : Bool) (f : A → B) (o : Option A) → (x ≡ None → b ≡ true → o ≡ None) → (if is_none x && b then option_map f o else x) ≡ x
 kept_head (Some y) b f o e = refl
 kept_head None true f o e = ap (option_map f) (e refl refl)
 kept_head None false f o e = refl

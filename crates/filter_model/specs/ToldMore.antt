@@ -1,10 +1,21 @@
 -- What the halves are told of an answer, and of which entries they are told nothing.
+<<<<<<< HEAD
 use Rattle.std.specs.Prelude.{◌≡◌, ◌≤◌, false, List, [], ◌∷◌, length, Option, Some, None}
+=======
+use Rattle.std.specs.Prelude.{◌≡◌, ◌≤◌, ◌⊎◌, true, false, List, [], ◌∷◌, length, Option, Some, None}
+>>>>>>> 12e9210e9123e920905634aa60edf0d2ec3ac906
 use Rattle.ext_msgs.specs.declared.answer.Answer.{Answer as Answering}
 use Rattle.ext_msgs.specs.declared.answer.Common.{Common}
+use Rattle.ext_msgs.specs.declared.answer.Span.{Span}
+use Rattle.ext_msgs.specs.declared.lists.Field.{Field}
 use Rattle.ext_msgs.specs.declared.modes.PartModes.{PartModes}
+use Rattle.header_mutation.specs.declared.setup.HalfFault.{HalfFault}
+use Rattle.header_mutation.specs.declared.setup.HalfFault.TheVariants as fault
+use Rattle.http_model.specs.Reader.{Extends}
+use Rattle.http_model.specs.Reads.{Original}
 use Rattle.http_model.specs.declared.types.Direction.{Direction}
 use Rattle.http_model.specs.declared.types.Direction.TheVariants.{Request, Response}
+<<<<<<< HEAD
 use Rattle.filter_model.specs.Config.{CourseConfig, FilterConfig}
 use Rattle.filter_model.specs.Account.{ExchangeAccount, Flow, is_finished, is_released}
 use Rattle.filter_model.specs.Course.{Course, asked, body_room, committed}
@@ -12,6 +23,18 @@ use Rattle.filter_model.specs.Cut.{PartAnswer, part_answer}
 use Rattle.filter_model.specs.Half as half
 use Rattle.filter_model.specs.Half.{HalfCall, Answer, Settle, called}
 use Rattle.filter_model.specs.HalfRight.{MayRead}
+=======
+use Rattle.http_model.specs.declared.types.Length.{Length}
+use Rattle.filter_model.specs.Config.{CourseConfig, FilterConfig}
+use Rattle.filter_model.specs.Account.{ExchangeAccount, Flow, is_finished, is_released}
+use Rattle.filter_model.specs.Course.{Course, asked, body_room, committed, due, head_may_go}
+use Rattle.filter_model.specs.Cut.{Cut, Gone, Malformed, PartAnswer, Refused, Spurious, part_answer}
+use Rattle.filter_model.specs.Half as half
+use Rattle.filter_model.specs.Half.{HalfCall, Answer, Settle, called}
+use Rattle.filter_model.specs.HalfRight.{MayRead}
+use Rattle.filter_model.specs.Sound.{Sound}
+use Rattle.filter_model.specs.Told.{ReadWell}
+>>>>>>> 12e9210e9123e920905634aa60edf0d2ec3ac906
 use Rattle.filter_model.specs.View.{ViewEntry, Bytes, End, Lost, Answered, TooLong, Closed, NoStream, Tick, Starved, Sent, Given}
 
 -- Answers
@@ -43,6 +66,14 @@ pub record IsAnswerTo (c : FilterConfig) (x : Answering) (p : PartAnswer) (a : E
   pub unreleased : is_released a ≡ false
   pub unfinished : is_finished c a ≡ false
 
+-- the cut that a refusal is
+abbrev pub cut_for : Option HalfFault → Option Cut
+cut_for None = None
+cut_for (Some fault.Spurious) = Some Spurious
+cut_for (Some (fault.Malformed place)) = Some Malformed
+cut_for (Some (fault.Disallowed place)) = Some Refused
+cut_for (Some fault.Memory) = Some Gone
+
 -- Entries that tell nothing
 
 -- an entry that brings nothing of a message, and no answer
@@ -62,6 +93,21 @@ IsOfNoSide (Tick n) = Unit {0}
 IsOfNoSide Starved = Unit {0}
 IsOfNoSide _ = ⊥
 
+<<<<<<< HEAD
+=======
+-- the stream gives no more answers
+abbrev pub EndsStream : ViewEntry → Type 0
+EndsStream TooLong = Unit {0}
+EndsStream (Closed clean) = Unit {0}
+EndsStream NoStream = Unit {0}
+EndsStream _ = ⊥
+
+-- an answer has a timeout override, or is one to a part
+abbrev pub IsTaken : FilterConfig → ExchangeAccount → Option Answering → Type 0
+IsTaken c a None = ⊥
+IsTaken c a (Some x) = ((t : Span) × (x.timeout ≡ Some t)) ⊎ ((p : PartAnswer) × IsAnswerTo c x p a)
+
+>>>>>>> 12e9210e9123e920905634aa60edf0d2ec3ac906
 -- News
 
 -- a head, once, or body bytes for which there is room, before the end
@@ -71,6 +117,21 @@ CallFits c d w (half.Bytes bytes) = MayRead w × (length bytes ≤ body_room c d
 CallFits c d w (half.End bytes trailers) = MayRead w × (length bytes ≤ body_room c d w)
 CallFits c d w _ = ⊥
 
+<<<<<<< HEAD
+=======
+-- a course at rest reads on, whether the entry is a cut or not
+pub record Arrives (c : CourseConfig) (d : Direction) (w : Course) (now : Original) : Type 0 where
+  pub sound : Sound c w
+  pub chosen : w.head ≡ None → head_may_go w ≡ true → w.original.head ≡ None
+  pub asked : due c d w ≡ []
+  pub extends : Extends w.original now
+  pub before : ReadWell w.original
+  pub after : ReadWell now
+  -- the head's entry brings at most one piece, and the mark leaves room for it
+  pub short : w.original.head ≡ None → length now.body ≤ c.piece
+  pub sizes : c.piece ≤ c.mark
+
+>>>>>>> 12e9210e9123e920905634aa60edf0d2ec3ac906
 -- each of the calls fits where it comes, oldest first
 abbrev pub AllFit : CourseConfig → Direction → List HalfCall → Course → Type 0
 AllFit c d [] w = Unit {0}
@@ -103,3 +164,15 @@ BringsNoAnswer (Tick n) = Unit {0}
 BringsNoAnswer Sent = Unit {0}
 BringsNoAnswer (Given s bytes) = Unit {0}
 BringsNoAnswer _ = ⊥
+<<<<<<< HEAD
+=======
+
+-- of what its side brings, the head alone
+abbrev pub head_at : Option (List Field) → Option (List Field) → Length → List HalfCall
+head_at None (Some head) n = half.Head head n ∷ []
+head_at None None n = []
+head_at (Some head) now n = []
+
+abbrev pub head_news : Original → Original → List HalfCall
+head_news before now = head_at before.head now.head now.length
+>>>>>>> 12e9210e9123e920905634aa60edf0d2ec3ac906

@@ -2,14 +2,15 @@
 ghost use Rattle.ext_msgs.specs.Spelling.{ask};
 ghost use Rattle.ext_msgs.specs.declared.answer.Answer.{Answer as Answering};
 ghost use Rattle.ext_msgs.specs.declared.answer.Common.{Common};
+ghost use Rattle.ext_msgs.specs.declared.answer.ModeNumbers.{ModeNumbers};
 ghost use Rattle.ext_msgs.specs.declared.answer.Span.{Span};
 ghost use Rattle.ext_msgs.specs.declared.modes.PartModes.{PartModes};
-ghost use Rattle.filter_model.specs.Account.{ExchangeAccount, Live, course, from, gathered, given_count, is_finished, is_given_at, is_in, to, unsent, flow, front, is_out_in, is_released, Left, is_given, settled};
+ghost use Rattle.filter_model.specs.Account.{ExchangeAccount, Live, course, from, gathered, given_count, is_finished, is_given_at, is_in, to, unsent, flow, front, is_out_in, is_released, Left, is_given, settled, is_to_head};
 ghost use Rattle.filter_model.specs.AllGiven.{is_all_handed, is_nothing};
-ghost use Rattle.filter_model.specs.Answers.{extended_by, override_of};
+ghost use Rattle.filter_model.specs.Answers.{extended_by, override_of, answered};
 ghost use Rattle.filter_model.specs.Config.{CourseConfig, FilterConfig};
 ghost use Rattle.filter_model.specs.Course.{Course, Changed, asked, body_of, body_room, changed, committed, due, is_headers, is_over, out, queue};
-ghost use Rattle.filter_model.specs.Cut.{AnswerKind, Cut, PartAnswer, is_whole_and_done, peer_cut, processor_cut};
+ghost use Rattle.filter_model.specs.Cut.{AnswerKind, Cut, PartAnswer, is_whole_and_done, part_cut, peer_cut, processor_cut};
 ghost use Rattle.filter_model.specs.Given.{data_in};
 ghost use Rattle.filter_model.specs.Grown.{Grown};
 ghost use Rattle.filter_model.specs.Half.{HalfCall, Answer, Release, Settle, Sent as OneSent, Given as SoManyGiven, Past, Taken, MayGive, NothingDue, becomes, called, course as past_course, parts, progress, refusal, settled_modes};
@@ -19,7 +20,7 @@ ghost use Rattle.filter_model.specs.Right.{Call, Stepped, Took, Headline, IsHist
 ghost use Rattle.filter_model.specs.Sound.{Sound};
 ghost use Rattle.filter_model.specs.Step.{cut, ending_of, fate_under, is_departure, is_live, step, still_counts};
 ghost use Rattle.filter_model.specs.Told.{Comes, IsLetPass, IsNoCut, IsOfProcessor, IsOfSides, IsShort, ReadWell, asks_behind, known, more_given, news, told};
-ghost use Rattle.filter_model.specs.ToldMore.{AllFit, BringsNoAnswer, IsAnswerTo, IsOfNoSide, ReadsNothing, SameRest, across, other_calls, own_calls};
+ghost use Rattle.filter_model.specs.ToldMore.{AllFit, BringsNoAnswer, IsAnswerTo, IsOfNoSide, ReadsNothing, SameRest, across, other_calls, own_calls, Arrives, EndsStream, IsTaken, cut_for, head_news};
 ghost use Rattle.filter_model.specs.View.{ViewEntry, Answered, Given, Lost, Sent, Starved};
 ghost use Rattle.filter_model.specs.declared.calls.Loss.{Loss};
 ghost use Rattle.filter_model.specs.declared.calls.Side.{Side};
@@ -30,7 +31,7 @@ ghost use Rattle.http_model.specs.declared.types.Direction.{Direction};
 ghost use Rattle.http_model.specs.declared.types.Direction.TheVariants.{Request, Response};
 ghost use Rattle.http_model.specs.declared.types.Out.{Out};
 ghost use Rattle.std.specs.List.{list_any};
-ghost use Rattle.std.specs.Prelude.{None, is_some, Bool, List, [], map, reverse, filter_map, true, false, ◌&&◌, ◌∷◌, ◌++◌, ◌≡◌, ◌<◌, ◌≤◌, ◌+◌, ◌-◌, ◌⊎◌, ℕ, drop, length, nat_le, take, if◌then◌else◌, Some};
+ghost use Rattle.std.specs.Prelude.{None, is_some, Bool, List, [], map, reverse, filter_map, true, false, ◌&&◌, ◌∷◌, ◌++◌, ◌≡◌, ◌<◌, ◌≤◌, ◌+◌, ◌-◌, ◌⊎◌, ℕ, drop, length, nat_le, take, if◌then◌else◌, Some, Option};
 
 /// In every history the asks that went out are the first of those made, in order.
 pub fn asks_in_order()
@@ -220,11 +221,29 @@ pub fn never_over()
         → IsNoCut c Sent (account c h) }
 {}
 
-/// A half that was told of a call asks whether its body is past its limit: heads that are chosen and asks that are made
-/// change nothing of the answer.
+/// A half that was told says whether its body is past its limit as the account does, whether the entry is the cut or
+/// not: heads that are chosen and asks that are made change nothing of it, nor does it matter that the half is told the
+/// entry in turn.
 pub fn over_told()
-    ensures { (c : CourseConfig) (d : Direction) (w : Course) → length w.answers ≤ length w.asks →
+    ensures call { (c : CourseConfig) (d : Direction) (w : Course) → length w.answers ≤ length w.asks →
         is_over c (asked c d (committed c d w)) ≡ is_over c w }
+    ensures news { (c : CourseConfig) (d : Direction) (w : Course) (now : Original) → Arrives c d w now →
+        is_over c (told c d (news c d (known w) now) (known w)) ≡ is_over c (record w { original = now }) }
+    ensures entry { (c : FilterConfig) (h : List Call) (e : ViewEntry) → IsHistory c (Stepped e ∷ h) → IsOfSides e
+        → is_live (account c h).fate ≡ true → c.course.piece ≤ c.course.mark → (d : Direction) →
+        is_over c.course (told c.course d (news c.course d (known (course d (account c h)))
+        (course d (gathered e (account c h))).original) (known (course d (account c h))))
+        ≡ is_over c.course (course d (gathered e (account c h))) }
+    ensures own { (c : FilterConfig) (h : List Call) (x : Answering) (p : PartAnswer) → IsHistory c h
+        → is_live (account c h).fate ≡ true → IsAnswerTo c x p (account c h) → part_cut c (account c h) p ≡ None →
+        is_over c.course (told c.course p.direction
+        (own_calls p.direction (override_of c p.kind x.modes) p.common) (known (course p.direction (account c h))))
+        ≡ is_over c.course (course p.direction (answered c (Answered (Some x)) (account c h))) }
+    ensures other { (c : FilterConfig) (h : List Call) (x : Answering) (p : PartAnswer) → IsHistory c h
+        → is_live (account c h).fate ≡ true → IsAnswerTo c x p (account c h) → part_cut c (account c h) p ≡ None →
+        is_over c.course (told c.course (across p.direction)
+        (other_calls p.direction (override_of c p.kind x.modes)) (known (course (across p.direction) (account c h))))
+        ≡ is_over c.course (course (across p.direction) (answered c (Answered (Some x)) (account c h))) }
 {}
 
 /// While an exchange lives each of its accounts is at rest: heads that can go are chosen, no ask is due, and the body
@@ -244,9 +263,10 @@ pub fn at_rest()
 {}
 
 /// An answer to a part that is no cut, while answers count: its direction is told the modes that it brings, while the
-/// headers ask is out, and then the answer, which isn't refused. The response is told the modes that an answer to the
-/// request's headers brings for it, before its head. The asks that follow are those of the halves, the request's first.
-/// The timer of its direction starts anew, and that of the other one starts where no ask was out.
+/// headers ask is out, and then the answer, which its half doesn't refuse; where it does, that is the cut. The response
+/// is told the modes that an answer to the request's headers brings for it, before its head. The asks that follow are
+/// those of the halves, the request's first. The timer of its direction starts anew, and that of the other one starts
+/// where no ask was out.
 pub fn answer_told()
     ensures own { (c : FilterConfig) (h : List Call) (x : Answering) (p : PartAnswer) →
         IsHistory c (Stepped (Answered (Some x)) ∷ h) → IsNoCut c (Answered (Some x)) (account c h)
@@ -264,15 +284,18 @@ pub fn answer_told()
         IsNoCut c (Answered (Some x)) a → IsAnswerTo c x p a → (step c (Answered (Some x)) a).made
         ≡ (a.made ++ asks_behind Request (course Request a) (course Request (step c (Answered (Some x)) a)))
         ++ asks_behind Response (course Response a) (course Response (step c (Answered (Some x)) a)) }
-    ensures accepted { (c : FilterConfig) (x : Answering) (p : PartAnswer) (a : ExchangeAccount) →
-        IsNoCut c (Answered (Some x)) a → IsAnswerTo c x p a
+    ensures judged { (c : FilterConfig) (p : PartAnswer) (a : ExchangeAccount) → part_cut c a p
+        ≡ cut_for (refusal c.course p.direction (course p.direction a) p.kind p.common) }
+    ensures part { (c : FilterConfig) (x : Answering) (p : PartAnswer) (a : ExchangeAccount) →
+        IsNoCut c (Answered (Some x)) a → IsAnswerTo c x p a → part_cut c a p ≡ None }
+    ensures accepted { (c : FilterConfig) (p : PartAnswer) (a : ExchangeAccount) → part_cut c a p ≡ None
         → refusal c.course p.direction (course p.direction a) p.kind p.common ≡ None }
-    ensures settles { (c : FilterConfig) (x : Answering) (p : PartAnswer) (a : ExchangeAccount) →
-        IsNoCut c (Answered (Some x)) a → IsAnswerTo c x p a → is_some (override_of c p.kind x.modes) ≡ true
+    ensures settles { (c : FilterConfig) (p : PartAnswer) (n : Option ModeNumbers) (a : ExchangeAccount) →
+        part_cut c a p ≡ None → is_some (override_of c p.kind n) ≡ true
         → list_any is_headers (out (course p.direction a)) ≡ true }
-    ensures early { (c : FilterConfig) (h : List Call) (x : Answering) (p : PartAnswer) → IsHistory c h
-        → IsNoCut c (Answered (Some x)) (account c h) → IsAnswerTo c x p (account c h) → p.direction ≡ Request
-        → is_some (override_of c p.kind x.modes) ≡ true → (course Response (account c h)).original.head ≡ None }
+    ensures early { (c : FilterConfig) (h : List Call) (p : PartAnswer) (n : Option ModeNumbers) → IsHistory c h
+        → is_released (account c h) ≡ false → part_cut c (account c h) p ≡ None → p.direction ≡ Request
+        → is_some (override_of c p.kind n) ≡ true → (course Response (account c h)).original.head ≡ None }
     ensures timer { (c : FilterConfig) (x : Answering) (p : PartAnswer) (a : ExchangeAccount) →
         IsNoCut c (Answered (Some x)) a → IsAnswerTo c x p a
         → ((flow p.direction (step c (Answered (Some x)) a)).deadline ≡ a.now + c.timeout_ms)
@@ -288,7 +311,8 @@ pub fn answer_told()
 /// Once the rest passes or all was given, an entry of the processor or of time, or want of memory, that is no cut tells
 /// the halves nothing; before, an answer with a timeout override tells them nothing. Both courses stay, and no ask
 /// follows. A timer starts where no ask is out, and the override starts it anew, once for each ask. Want of memory is
-/// no cut only when all was given.
+/// no cut only when all was given, and an end of the stream only then or once the rest passes. Before, an answer that is
+/// no cut has a timeout override or is one to a part.
 pub fn nothing_told()
     ensures idle { (c : FilterConfig) (h : List Call) (e : ViewEntry) → IsHistory c (Stepped e ∷ h) → IsOfNoSide e
         → IsNoCut c e (account c h) → (is_released (account c h) ≡ true) ⊎ (is_finished c (account c h) ≡ true)
@@ -315,6 +339,84 @@ pub fn nothing_told()
         ≡ (if is_out_in a d then (flow d (extended_by c t a)).deadline else a.now + c.timeout_ms))
         × ((flow d (step c (Answered (Some x)) a)).extended ≡ (flow d (extended_by c t a)).extended) }
     ensures starved { (c : FilterConfig) (a : ExchangeAccount) → IsNoCut c Starved a → is_finished c a ≡ true }
+    ensures ends { (c : FilterConfig) (e : ViewEntry) (a : ExchangeAccount) → EndsStream e → IsNoCut c e a
+        → (is_released a ≡ true) ⊎ (is_finished c a ≡ true) }
+    ensures taken { (c : FilterConfig) (x : Option Answering) (a : ExchangeAccount) → IsNoCut c (Answered x) a
+        → is_released a ≡ false → is_finished c a ≡ false → IsTaken c a x }
+{}
+
+/// Each call that tells a half what its side brings may be told where it comes: the head once, behind it body bytes
+/// for which there is room, of a message that has a body and isn't whole. This holds where the side brings, behind the
+/// head, no more body than there was room for, and with the head at most a piece. Along a history it never brings more,
+/// as the body of a message grows by no more bytes than come.
+pub fn news_fit()
+    ensures fit { (c : CourseConfig) (d : Direction) (w : Course) (now : Original) → Comes c d w now →
+        (is_some w.original.head ≡ true → length now.body - length w.original.body ≤ body_room c d w)
+        → AllFit c d (news c d (known w) now) (known w) }
+    ensures along { (c : FilterConfig) (h : List Call) (e : ViewEntry) → IsHistory c (Stepped e ∷ h) → IsOfSides e
+        → IsNoCut c e (account c h) → c.course.piece ≤ c.course.mark → (d : Direction)
+        → AllFit c.course d (news c.course d (known (course d (account c h)))
+        (course d (gathered e (account c h))).original) (known (course d (account c h))) }
+    ensures short { (c : FilterConfig) (h : List Call) (e : ViewEntry) → IsHistory c (Stepped e ∷ h) → IsOfSides e
+        → (d : Direction) → IsShort c (course d (account c h)) (course d (gathered e (account c h))) }
+    ensures grows { (d : Direction) (to_head : Bool) (bytes more : List ℕ) (ended now_ended : Bool) →
+        length (reads d to_head (bytes ++ more) now_ended).body
+        ≤ length (reads d to_head bytes ended).body + length more }
+{}
+
+/// A cut that ends an exchange, or the client's leaving, tells the halves nothing that counts: the asks that were made
+/// stay, and each message was given whole afterwards only where it was before. After an end neither changes: of all
+/// entries of the two sides, of the processor and of time only an ask that was sent counts.
+pub fn untold()
+    ensures made { (c : FilterConfig) (e : ViewEntry) (a : ExchangeAccount) → is_live a.fate ≡ true
+        → is_live (step c e a).fate ≡ false → (step c e a).made ≡ a.made }
+    ensures given { (c : FilterConfig) (h : List Call) (e : ViewEntry) → IsHistory c (Stepped e ∷ h)
+        → is_live (account c h).fate ≡ true → is_live (account c (Stepped e ∷ h)).fate ≡ false → (d : Direction)
+        → is_given c (account c (Stepped e ∷ h)) d ≡ is_given c (account c h) d }
+    ensures after_given { (c : FilterConfig) (h : List Call) (e : ViewEntry) → IsHistory c (Stepped e ∷ h)
+        → is_live (account c h).fate ≡ false → (d : Direction)
+        → is_given c (account c (Stepped e ∷ h)) d ≡ is_given c (account c h) d }
+    ensures after_asks { (c : FilterConfig) (e : ViewEntry) (a : ExchangeAccount) → is_live a.fate ≡ false
+        → (d : Direction) → ((course d (step c e a)).asks ≡ (course d a).asks) × ((step c e a).made ≡ a.made) }
+    ensures after_same { (c : FilterConfig) (e : ViewEntry) (a : ExchangeAccount) → is_live a.fate ≡ false
+        → still_counts e ≡ false → step c e a ≡ a }
+{}
+
+/// What an entry does to a live exchange beside the courses and the asks: what it brings stands, whether it is a cut or
+/// not. The fate changes only by a cut or the client's leaving, and the ending as the account then says. An entry that
+/// is no cut and brings no answer starts the timer of a direction in which no ask is out; a cut leaves the timers.
+pub fn rest_stays()
+    ensures same { (c : FilterConfig) (e : ViewEntry) (a : ExchangeAccount) → is_live a.fate ≡ true
+        → SameRest (gathered e a) (step c e a) }
+    ensures fate { (c : FilterConfig) (e : ViewEntry) (a : ExchangeAccount) → IsNoCut c e a
+        → (step c e a).fate ≡ a.fate }
+    ensures cut_fate { (c : FilterConfig) (e : ViewEntry) (a : ExchangeAccount) (k : Cut) → is_live a.fate ≡ true
+        → is_departure e (gathered e a) ≡ false → cut c e (gathered e a) ≡ Some k
+        → (step c e a).fate ≡ fate_under c k (settled c (gathered e a)) }
+    ensures left { (c : FilterConfig) (e : ViewEntry) (a : ExchangeAccount) → is_live a.fate ≡ true
+        → is_departure e (gathered e a) ≡ true → (step c e a).fate ≡ Left }
+    ensures ending { (c : FilterConfig) (e : ViewEntry) (a : ExchangeAccount) → is_live a.fate ≡ true
+        → (step c e a).ending ≡ ending_of c (record (step c e a) { ending = a.ending }) }
+    ensures timer { (c : FilterConfig) (e : ViewEntry) (a : ExchangeAccount) → BringsNoAnswer e → IsNoCut c e a
+        → (d : Direction) → ((flow d (step c e a)).deadline
+        ≡ (if is_out_in a d then (flow d a).deadline else (gathered e a).now + c.timeout_ms))
+        × ((flow d (step c e a)).extended ≡ (flow d a).extended) }
+    ensures cut_timer { (c : FilterConfig) (e : ViewEntry) (a : ExchangeAccount) (k : Cut) → is_live a.fate ≡ true
+        → is_departure e (gathered e a) ≡ false → cut c e (gathered e a) ≡ Some k → (d : Direction)
+        → ((flow d (step c e a)).deadline ≡ (flow d a).deadline)
+        × ((flow d (step c e a)).extended ≡ (flow d a).extended) }
+{}
+
+/// Whether a cut ends an exchange by a reply hangs on the response's head: also on one that the entry itself brings,
+/// where it can go at once. A half that is told the head alone has one then where the account does; of an entry that
+/// brings no head it is told nothing.
+pub fn cut_head()
+    ensures chosen { (c : FilterConfig) (h : List Call) (e : ViewEntry) → IsHistory c (Stepped e ∷ h)
+        → is_live (account c h).fate ≡ true → (d : Direction) →
+        is_some (course d (settled c (gathered e (account c h)))).head
+        ≡ is_some (told c.course d (head_news (course d (account c h)).original
+        (course d (gathered e (account c h))).original) (known (course d (account c h)))).head }
+    ensures to_head { (c : FilterConfig) (a : ExchangeAccount) → is_to_head (settled c a) ≡ is_to_head a }
 {}
 
 /// Each call that tells a half what its side brings may be told where it comes: the head once, behind it body bytes
