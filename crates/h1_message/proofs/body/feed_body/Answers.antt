@@ -1,4 +1,4 @@
-use Rattle.std.proofs.Common.{arith, ◌≡◌, ◌≤◌, length, List, ℕ, sym, ap, subst, ◌∙◌}
+use Rattle.std.proofs.Common.{arith, length, List, ℕ, sym, ap, subst}
 use Rattle.h1_message.specs.Feeding.{GoesOn, Fails, Ends}
 use Rattle.h1_message.proofs.BodyLaw.{along_ends, along_whole, along_fails}
 use Rattle.h1_message.proofs.body.feed_body.Goals as goal
