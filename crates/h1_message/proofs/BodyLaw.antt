@@ -1,6 +1,6 @@
 -- A body that is read piece by piece.
-use Rattle.std.proofs.Common.{sym, ◌∙◌, ap, subst, refl, arith, append_assoc, append-nil, length-append, length-drop, length-take, drop-drop}
-use Rattle.std.specs.Prelude.{ℕ, ◌≡◌, ◌+◌, ◌-◌, ◌≤◌, Bool, true, false, List, [], ◌∷◌, ◌++◌, length, take, drop, slice_range, Option, Some, None, is_some}
+use Rattle.std.proofs.Common.{sym, ◌∙◌, ap, refl, append-nil}
+use Rattle.std.specs.Prelude.{ℕ, ◌≡◌, ◌≤◌, Bool, true, false, List, [], ◌++◌, length, drop, Option, Some, None, is_some}
 use Rattle.ext_msgs.specs.declared.lists.Field.{Field}
 use Rattle.http_model.specs.Reading.{Fault}
 use Rattle.http_model.specs.Bodies.{Body, behind, part, faulty}
@@ -8,7 +8,7 @@ use Rattle.h1_read.specs.Messages.{fault_of}
 use Rattle.h1_read.specs.Remaining as remaining
 use Rattle.h1_read.specs.Remaining.{Rest, remaining, GivesContent, FedFault}
 use Rattle.h1_read.specs.declared.fault.H1Fault.{H1Fault}
-use Rattle.h1_read.proofs.BodyMoves.{behind_both, none_left}
+use Rattle.h1_read.proofs.BodyMoves.{none_left}
 use Rattle.h1_message.specs.Feeding.{GoesOn, Fails, Ends}
 use Rattle.h1_message.proofs.FaultLaw.{fault_stays}
 
@@ -17,35 +17,6 @@ pub record Along (before : Rest) (bytes content : List ℕ) (at : ℕ) (now : Re
   pub in_range : at ≤ length bytes
   pub short : length content ≤ at
   pub on : (ended : Bool) (more : List ℕ) → remaining before ended (bytes ++ more) ≡ behind content (remaining now ended (drop at bytes ++ more))
-
-none_off : (bytes : List ℕ) → bytes ≡ drop 0 bytes
-none_off [] = refl
-none_off (b ∷ bytes) = refl
-
-pub along_starts : (before : Rest) (bytes : List ℕ) → Along before bytes [] 0 before
-along_starts before bytes = record {
-  in_range = omega arith;
-  short = omega arith;
-  on = λ ended more. ap (λ l. remaining before ended (l ++ more)) (none_off bytes);
-}
-
-slice_short : (bytes : List ℕ) (start len : ℕ) → length (slice_range bytes start (start + len)) ≤ len
-slice_short bytes start len = omega (arith, length-take (start + len - start) (drop start bytes))
-
-pub along_goes_on : (before now after : Rest) (bytes content rest : List ℕ) (at start len : ℕ) → Along before bytes content at now → rest ≡ drop at bytes
-    → start + len ≤ length rest → GivesContent now rest (start + len) (slice_range rest start (start + len)) after
-    → Along before bytes (content ++ slice_range rest start (start + len)) (at + (start + len)) after
-along_goes_on before now after bytes content rest at start len w b h g =
-    let piece = slice_range rest start (start + len) in
-    record {
-      in_range = omega (arith, w.in_range, h, ap length b, length-drop at bytes);
-      short = omega (arith, w.short, slice_short rest start len, length-append content piece);
-      on = λ ended more.
-          w.on ended more ∙ ap (λ l. behind content (remaining now ended (l ++ more))) (sym b) ∙ ap (behind content) (g ended more)
-          ∙ behind_both content piece (remaining after ended (drop (start + len) rest ++ more))
-          ∙ ap (λ l. behind (content ++ piece) (remaining after ended (drop (start + len) l ++ more))) b
-          ∙ ap (λ l. behind (content ++ piece) (remaining after ended (l ++ more))) (drop-drop (start + len) at bytes);
-    }
 
 pub along_ends : (before now after : Rest) (bytes content rest : List ℕ) (at used : ℕ) → Along before bytes content at now → rest ≡ drop at bytes
     → used ≡ length rest → GivesContent now rest used [] after → remaining now false rest ≡ part [] → GoesOn before bytes content after

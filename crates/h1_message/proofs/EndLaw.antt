@@ -15,12 +15,12 @@ use Rattle.h1_read.specs.Messages.{fault_of}
 use Rattle.h1_read.specs.Remaining.{Rest}
 use Rattle.h1_read.specs.declared.fault.H1Fault.{H1Fault}
 use Rattle.h1_message.specs.Source.{Source, IsNews, original, named}
-use Rattle.h1_message.specs.Stages.{InBody, Stands, reading_of, is_close, cut, whole_at, fault_at, headed_at, news_of, IsGiven}
+use Rattle.h1_message.specs.Stages.{Stands, reading_of, is_close, cut, whole_at, fault_at, headed_at, news_of, IsGiven}
 use Rattle.h1_message.specs.declared.stage.Stage.{Stage}
 use Rattle.h1_message.specs.declared.stage.Stage.TheVariants as stage
 use Rattle.h1_message.specs.declared.step.Given.{Given}
 use Rattle.h1_message.proofs.GivenLaw.{by_reading, by_head}
-use Rattle.h1_message.proofs.StageLaw.{unbegun_reads, body_was, no_body_now, whole_now}
+use Rattle.h1_message.proofs.StageLaw.{unbegun_reads, no_body_now, whole_now}
 
 -- a fault that is named, or none on both sides
 pub record SameFault (said : Option H1Fault) (fault : Option Fault) : Type 0 where

@@ -1,12 +1,12 @@
 -- What a call gives, by the messages before and behind it.
-use Rattle.std.proofs.Common.{sym, ◌∙◌, ap, refl, arith}
-use Rattle.std.specs.Prelude.{ℕ, ◌≡◌, Bool, false, List, [], ◌++◌, length, drop, Option, Some, None}
+use Rattle.std.proofs.Common.{sym, ◌∙◌, ap, refl}
+use Rattle.std.specs.Prelude.{ℕ, ◌≡◌, Bool, false, List, ◌++◌, length, drop, Option, Some, None}
 use Rattle.std.proofs.Math.Seq.{drop-append_seam}
 use Rattle.ext_msgs.specs.declared.lists.Field.{Field}
-use Rattle.http_model.specs.Reading.{Reading, Whole, Partial, Bad, Fault}
+use Rattle.http_model.specs.Reading.{Reading, Whole, Fault}
 use Rattle.http_model.specs.Heads.{Head}
 use Rattle.http_model.specs.Bodies.{Body, body}
-use Rattle.http_model.specs.Reads.{Original, reads, read_by, unread, with_body}
+use Rattle.http_model.specs.Reads.{reads, read_by, unread, with_body}
 use Rattle.h1_read.specs.Messages.{head_of}
 use Rattle.h1_read.specs.declared.message.Message.{Message}
 use Rattle.h1_message.specs.Source.{Source, original}

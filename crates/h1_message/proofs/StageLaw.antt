@@ -22,7 +22,7 @@ use Rattle.h1_read.proofs.BodyMoves.{behind_both}
 use Rattle.h1_read.proofs.StateLaw.{heads_go_on, left_goes_on}
 use Rattle.h1_message.specs.Feeding.{IsNext, IsHeadFed}
 use Rattle.h1_message.specs.Source.{Source, more, ended, original}
-use Rattle.h1_message.specs.Stages.{IsUnbegun, IsNewHead, InHead, HasNoHead, InBody, HasNoBody, HasAll, IsAt, reading_of, begun_at, Stands, stage_behind, trailers_of, nothing, told, IsGiven}
+use Rattle.h1_message.specs.Stages.{IsUnbegun, IsNewHead, InHead, InBody, HasNoBody, HasAll, IsAt, reading_of, begun_at, Stands, stage_behind, trailers_of, nothing, told, IsGiven}
 use Rattle.h1_message.specs.declared.body.Next.{Next}
 use Rattle.h1_message.specs.declared.body.Next.TheVariants.{On, Bad, Whole}
 use Rattle.h1_message.specs.declared.head.HeadFed.{HeadFed}

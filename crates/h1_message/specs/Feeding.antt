@@ -22,7 +22,8 @@ IsNamed e e' = (e' ≡ e) × (is_some (fault_of e) ≡ true)
 
 -- the body goes on
 pub record GoesOn (before : Rest) (bytes content : List ℕ) (after : Rest) : Type 0 where
-  pub on : (ended : Bool) (more : List ℕ) → remaining before ended (bytes ++ more) ≡ behind content (remaining after ended more)
+  pub on : (ended : Bool) (more : List ℕ)
+      → remaining before ended (bytes ++ more) ≡ behind content (remaining after ended more)
   pub unfinished : remaining after false [] ≡ part []
 
 -- it can't be read on, whatever follows
@@ -34,7 +35,8 @@ pub record Fails (before : Rest) (bytes content : List ℕ) (e : H1Fault) : Type
 -- it is whole, whatever follows
 pub record Ends (before : Rest) (bytes content : List ℕ) (trailers : List Field) : Type 0 where
   pub left : List ℕ
-  pub whole : (ended : Bool) (more : List ℕ) → remaining before ended (bytes ++ more) ≡ whole_body content trailers (left ++ more)
+  pub whole : (ended : Bool) (more : List ℕ)
+      → remaining before ended (bytes ++ more) ≡ whole_body content trailers (left ++ more)
 
 abbrev pub IsNext : Rest → List ℕ → List ℕ → Next → Type 0
 IsNext before bytes content (On after) = GoesOn before bytes content after

@@ -1,4 +1,4 @@
--- What the stages of a reader stand for.
+-- What the stages of a reader stand for, what they tell, and what bytes give.
 use Rattle.std.specs.Prelude.{ℕ, ◌≡◌, Bool, true, false, not, ◌&&◌, List, [], ◌++◌, length, drop, Option, Some, None, is_some}
 use Rattle.std.specs.Option.{option_map}
 use Rattle.ext_msgs.specs.declared.lists.Field.{Field}
@@ -8,6 +8,7 @@ use Rattle.http_model.specs.Reading as reading
 use Rattle.http_model.specs.Heads.{Head, message_head, head_so_far}
 use Rattle.http_model.specs.Bodies as bodies
 use Rattle.http_model.specs.Bodies.{body, part, faulty, whole_body}
+use Rattle.http_model.specs.Reads.{Original}
 use Rattle.http_model.specs.declared.types.Direction.{Direction}
 use Rattle.http_model.specs.declared.types.Direction.TheVariants.{Request, Response}
 use Rattle.http_model.specs.declared.types.Length.{Length}
@@ -18,17 +19,16 @@ use Rattle.h1_read.specs.Remaining.{Rest, remaining, kept_bytes}
 use Rattle.h1_read.specs.declared.fault.H1Fault.{H1Fault}
 use Rattle.h1_read.specs.declared.fault.H1Fault.TheVariants.{CutShort}
 use Rattle.h1_read.specs.declared.message.Message.{Message}
-use Rattle.http_model.specs.Reads.{Original}
 use Rattle.h1_message.specs.Source.{Source}
 use Rattle.h1_message.specs.declared.body.Next.{Next}
 use Rattle.h1_message.specs.declared.body.Next.TheVariants.{On, Bad, Whole}
 use Rattle.h1_message.specs.declared.head.HeadFed.{HeadFed}
 use Rattle.h1_message.specs.declared.head.HeadFed.TheVariants as fed
-use Rattle.h1_message.specs.declared.step.Given.{Given}
 use Rattle.h1_message.specs.declared.news.News.{News}
 use Rattle.h1_message.specs.declared.reader.MessageReader.{MessageReader}
 use Rattle.h1_message.specs.declared.stage.Stage.{Stage}
 use Rattle.h1_message.specs.declared.stage.Stage.TheVariants as stage
+use Rattle.h1_message.specs.declared.step.Given.{Given}
 
 -- no byte came
 pub record IsUnbegun (s : Source) (d : Direction) (to_head : Bool) : Type 0 where
@@ -39,7 +39,8 @@ pub record IsUnbegun (s : Source) (d : Direction) (to_head : Bool) : Type 0 wher
 -- the head isn't whole
 pub record InHead (s : Source) (h : HeadState) : Type 0 where
   pub direction : s.direction ≡ h.direction
-  pub same : (bytes : List ℕ) → message_head s.direction s.to_head bytes ≡ message_head h.direction h.to_head bytes
+  pub same : (bytes : List ℕ)
+      → message_head s.direction s.to_head bytes ≡ message_head h.direction h.to_head bytes
   pub so_far : h.so_far ≡ head_so_far s.direction s.brought
   pub reads : message_head s.direction s.to_head s.brought ≡ reading.Partial
 
@@ -62,7 +63,8 @@ pub record InBody (r : Reading Head) (length : Length) (rest : Rest) : Type 0 wh
   pub came : List ℕ
   pub reads : r ≡ reading.Whole head behind
   pub framed : head.length ≡ length
-  pub on : (ended : Bool) (more : List ℕ) → body length ended (behind ++ more) ≡ bodies.behind came (remaining rest ended more)
+  pub on : (ended : Bool) (more : List ℕ)
+      → body length ended (behind ++ more) ≡ bodies.behind came (remaining rest ended more)
   pub unfinished : remaining rest false [] ≡ part []
 
 -- the body has a fault, whatever follows
@@ -83,7 +85,8 @@ pub record HasAll (r : Reading Head) : Type 0 where
   pub trailers : List Field
   pub left : List ℕ
   pub reads : r ≡ reading.Whole head behind
-  pub stays : (ended : Bool) (more : List ℕ) → body head.length ended (behind ++ more) ≡ whole_body came trailers (left ++ more)
+  pub stays : (ended : Bool) (more : List ℕ)
+      → body head.length ended (behind ++ more) ≡ whole_body came trailers (left ++ more)
 
 -- by what the bytes so far give of the head
 abbrev pub IsAt : Source → Reading Head → Stage → Type 0
@@ -94,9 +97,11 @@ IsAt s r (stage.Body length rest) = InBody r length rest
 IsAt s r (stage.NoBody e) = HasNoBody r e
 IsAt s r stage.Whole = HasAll r
 
+-- what all bytes so far give of the head
 abbrev pub reading_of : Source → Reading Head
 reading_of s = message_head s.direction s.to_head s.brought
 
+-- a byte came
 abbrev pub begun_at : Stage → Bool
 begun_at (stage.Unbegun d to_head) = false
 begun_at (stage.Head h) = true
@@ -111,6 +116,7 @@ pub record Stands (s : Source) (x : Stage) : Type 0 where
 
 -- What a stage tells of the message
 
+-- the body ends with the connection
 abbrev pub is_close : Length → Bool
 is_close Bodiless = false
 is_close (Known n) = false
@@ -125,6 +131,7 @@ whole_at (stage.Body length rest) ended = ended && is_close length
 whole_at (stage.NoBody e) ended = false
 whole_at stage.Whole ended = true
 
+-- the fault of what an end leaves unfinished
 abbrev pub cut : Bool → Option H1Fault
 cut true = Some CutShort
 cut false = None
@@ -155,12 +162,14 @@ held_at (stage.Body n rest) = length (kept_bytes rest)
 held_at (stage.NoBody e) = 0
 held_at stage.Whole = 0
 
+-- what a reader stands for: all that it was told
 pub record StandsFor (s : Source) (x : MessageReader) : Type 0 where
   pub stage : Stands s x.stage
   pub ended : x.ended ≡ s.ended
 
 -- What bytes give
 
+-- behind bytes of a body of this length
 abbrev pub stage_behind : Length → Next → Stage
 stage_behind n (On rest) = stage.Body n rest
 stage_behind n (Bad e) = stage.NoBody e
@@ -178,7 +187,10 @@ nothing = record { head = None; body = []; trailers = [] }
 abbrev pub told : HeadFed → Option Stage × Given
 told fed.On = (None, nothing)
 told (fed.Bad e) = (Some (stage.NoHead e), nothing)
-told (fed.Got m b) = (Some (stage_behind m.length b.next), record { head = Some m; body = b.content; trailers = trailers_of b.next })
+told (fed.Got m b) = (
+  Some (stage_behind m.length b.next),
+  record { head = Some m; body = b.content; trailers = trailers_of b.next },
+)
 
 -- what bytes give, by the messages before and behind them
 pub record IsGiven (before now : Original) (given : Given) : Type 0 where

@@ -60,6 +60,14 @@ fn part(bytes: &[u8], start: u32, len: u32) -> &[u8]
     &bytes[start as usize..start as usize + len as usize]
 }
 
+// What a call gives that ends with this.
+fn fed(content: Vec<u8>, next: Next) -> BodyFed
+    ensures { result ≡ record { content = content.items; next = next } }
+{
+    let content = Blob::from_vec(content);
+    BodyFed { content, next }
+}
+
 /// Reads on in a body. Each piece of content is copied once.
 pub(crate) fn feed_body(
     alloc: Global,
@@ -75,28 +83,13 @@ pub(crate) fn feed_body(
     'pieces: loop {
         let rest = behind(bytes, at);
         match body.feed(rest) {
-            Ok((Piece::More, _)) => {
-                return Ok(BodyFed {
-                    content: Blob::from_vec(content),
-                    next: Next::On(body),
-                });
-            }
+            Ok((Piece::More, _)) => return Ok(fed(content, Next::On(body))),
             Ok((Piece::Data(start, len), used)) => {
                 content.extend_from_slice(part(rest, start, len))?;
                 at += used as usize;
             }
-            Ok((Piece::End(trailers), _)) => {
-                return Ok(BodyFed {
-                    content: Blob::from_vec(content),
-                    next: Next::Whole(trailers),
-                });
-            }
-            Err(fault) => {
-                return Ok(BodyFed {
-                    content: Blob::from_vec(content),
-                    next: Next::Bad(named(fault)?),
-                });
-            }
+            Ok((Piece::End(trailers), _)) => return Ok(fed(content, Next::Whole(trailers))),
+            Err(fault) => return Ok(fed(content, Next::Bad(named(fault)?))),
         }
     }
 }

@@ -1,6 +1,6 @@
 //! A whole message of one side.
 
-ghost use Rattle.std.specs.Prelude.{◌≡◌, ◌≤◌, ◌<◌, ◌^◌, Bool, not, [], length, is_some, IfOk, OnErr};
+ghost use Rattle.std.specs.Prelude.{◌≡◌, ◌≤◌, ◌<◌, ◌^◌, Bool, true, false, not, [], length, is_some, IfOk, OnErr};
 ghost use Rattle.http_model.specs.Bytes.{is_empty};
 ghost use Rattle.http_model.specs.Heads.{head_so_far};
 ghost use Rattle.http_model.specs.Reading.{Partial};
@@ -46,9 +46,12 @@ impl MessageReader {
         }
     }
 
-    /// Tells, before the first byte, whether the request of a response was HEAD.
+    /// Tells, before the first byte, whether the request of a response was HEAD; behind it this changes nothing. It
+    /// takes no memory.
     pub fn to_head(&mut self, yes: bool)
-        ensures { (s : Source) → StandsFor s self.old → s.brought ≡ [] → StandsFor (told_to_head yes s) self.new }
+        ensures stands { (s : Source) → StandsFor s self.old → s.brought ≡ []
+            → StandsFor (told_to_head yes s) self.new }
+        ensures late { (s : Source) → StandsFor s self.old → is_empty s.brought ≡ false → self.new ≡ self.old }
     {
         match &mut self.stage {
             Stage::Unbegun(_, to_head) => *to_head = yes,
@@ -75,7 +78,8 @@ impl MessageReader {
     pub fn end(&mut self) -> News
         ensures stands { (s : Source) → StandsFor s self.old → StandsFor (ended s) self.new }
         ensures news { (s : Source) → StandsFor s self.old → IsNews (original s) (original (ended s)) result }
-        ensures short { result.body ≡ [] }
+        ensures bare { result.body ≡ [] }
+        ensures again { self.old.ended ≡ true → self.new ≡ self.old }
     {
         self.ended = true;
         self.news(nothing(self.alloc))

@@ -9,11 +9,12 @@ use http_model::{Direction, Length};
 /// How far a reader is in a message.
 ///
 /// ```text
-///             first bytes         a whole head           its last byte
-///   Unbegun -------------> Head ---------------> Body ----------------> Whole
-///                           |                     |
-///                     fault v               fault v
-///                         NoHead                NoBody
+///            first byte        a whole head         the last byte
+///   Unbegun -----------> Head --------------> Body --------------> Whole
+///                          |                    |
+///                          | fault              | fault
+///                          v                    v
+///                        NoHead               NoBody
 /// ```
 ///
 /// A call may take several of these steps. The end of the bytes is kept beside it: it makes a body whole that ends with

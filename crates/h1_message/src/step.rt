@@ -5,12 +5,13 @@ ghost use Rattle.http_model.specs.Heads.{message_head};
 ghost use Rattle.h1_read.specs.HeadReading.{HeadState};
 ghost use Rattle.h1_message.specs.Source.{Source, more, original};
 ghost use Rattle.h1_message.specs.Stages.{IsGiven, IsNewHead, IsUnbegun, Stands, nothing as none, stage_behind, told as told_of, trailers_of};
+ghost use Rattle.h1_message.specs.declared.stage.Stage.TheVariants.{Body};
 
 use crate::body::{BodyFed, Next, feed_body};
 use crate::head::{HeadFed, feed_head};
 use crate::stage::Stage;
 use ext_msgs::FieldList;
-use h1_read::{HeadReader, Message};
+use h1_read::{BodyReader, HeadReader, Message};
 use http_model::{Direction, Length};
 use pb_wire::Blob;
 use std::alloc::{AllocError, Global};
@@ -97,6 +98,30 @@ fn begin(
     }
 }
 
+// More bytes of a body. They are read by a copy of its reader, which keeps mostly none, so that the reader stays as it
+// was where memory runs out.
+fn go_on(
+    alloc: Global,
+    framed: Length,
+    reader: &BodyReader,
+    bytes: &[u8],
+) -> Result<(Stage, Given), AllocError>
+    requires small { length bytes.now < 2 ^ 32 }
+    ensures gives { (s : Source) → Stands s (Body framed reader.now) → IfOk result (λ r.
+        Stands (more bytes.now s) r.0 × IsGiven (original s) (original (more bytes.now s)) r.1) }
+    ensures short { IfOk result (λ r. length r.1.body ≤ length bytes.now) }
+{
+    let fed = feed_body(alloc, reader.copy()?, bytes)?;
+    let BodyFed { content, next } = fed;
+    let (stage, trailers) = behind_body(alloc, framed, next);
+    let given = Given {
+        head: None,
+        body: content,
+        trailers,
+    };
+    Ok((stage, given))
+}
+
 /// Reads on in a message; out of memory leaves the stage as it was.
 pub(crate) fn step(alloc: Global, stage: &mut Stage, bytes: &[u8]) -> Result<Given, AllocError>
     requires { length bytes.now < 2 ^ 32 }
@@ -126,16 +151,9 @@ pub(crate) fn step(alloc: Global, stage: &mut Stage, bytes: &[u8]) -> Result<Giv
             }
         }
         Stage::Body(length, reader) => {
-            let length = *length;
-            let fed = feed_body(alloc, reader.copy()?, bytes)?;
-            let BodyFed { content, next } = fed;
-            let (next, trailers) = behind_body(alloc, length, next);
+            let (next, given) = go_on(alloc, *length, reader, bytes)?;
             *stage = next;
-            Ok(Given {
-                head: None,
-                body: content,
-                trailers,
-            })
+            Ok(given)
         }
         Stage::NoHead(_) => Ok(nothing(alloc)),
         Stage::NoBody(_) => Ok(nothing(alloc)),

@@ -1,8 +1,7 @@
 use Rattle.std.proofs.Common.{sym, subst}
-use Rattle.h1_message.specs.Feeding.{IsBodyFed}
 use Rattle.h1_message.specs.Stages.{Stands}
 use Rattle.h1_message.specs.declared.stage.Stage.TheVariants.{Unbegun, Head}
-use Rattle.h1_message.proofs.StageLaw.{none_there, no_bytes, still_begun, told_some, told_none, told_short, body_steps, no_head_steps, no_body_steps, whole_steps, Steps}
+use Rattle.h1_message.proofs.StageLaw.{none_there, no_bytes, still_begun, told_some, told_none, told_short, no_head_steps, no_body_steps, whole_steps, Steps}
 use Rattle.h1_message.proofs.step.step.Goals as goal
 
 pub returns-then-is_empty-clause-gives : goal.returns-then-is_empty-clause-gives
@@ -26,12 +25,6 @@ returns-in-None-clause-gives c s w =
     let at : Stands s (Head c.in-Head.reader) = rw c.in-Head.is at w in
     told_none s c.in-Head.reader c.feed_head.new.reader c.args.bytes.now c.in_ok-fed-in-Head.fed c.told-next.result
     at.is c.in_ok-fed-in-Head.ensures.fed c.told-next.ensures c.in-None.is (still_begun s.brought c.args.bytes.now (sym at.begun))
-
-pub returns-in_ok-fed-in-Body-clause-gives : goal.returns-in_ok-fed-in-Body-clause-gives
-returns-in_ok-fed-in-Body-clause-gives c s w =
-    let fed = subst (λ r. IsBodyFed r c.args.bytes.now c.in_ok-fed-in-Body.fed) c.in_ok-copy-in-Body.ensures c.in_ok-fed-in-Body.ensures in
-    rw (c.behind_body-next.ensures)
-    (body_steps s c.args.bytes.now c.in_ok-fed-in-Body.fed.content c.in-Body.length c.in-Body.reader c.in_ok-fed-in-Body.fed.next (rw c.in-Body.is at w) fed.next)
 
 pub returns-in-NoHead-clause-gives : goal.returns-in-NoHead-clause-gives
 returns-in-NoHead-clause-gives c s w =

@@ -1,6 +1,4 @@
-use Rattle.std.proofs.Common.{◌∙◌, sym, ap, subst}
-use Rattle.h1_message.specs.Source.{IsNews, more, original}
-use Rattle.h1_message.specs.Stages.{news_of}
+use Rattle.h1_message.specs.Source.{more}
 use Rattle.h1_message.proofs.EndLaw.{is_news}
 use Rattle.h1_message.proofs.reader.MessageReader.feed.Goals as goal
 
