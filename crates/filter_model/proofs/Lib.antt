@@ -45,3 +45,4 @@ pub mod BodyWithin
 pub mod EntryFits
 pub mod CutHead
 pub mod OverTold
+pub mod FitUntil

@@ -14,13 +14,13 @@ use Rattle.http_model.specs.declared.types.Direction.TheVariants.{Request, Respo
 use Rattle.http_model.specs.declared.types.Length.{Length}
 use Rattle.filter_model.specs.Config.{CourseConfig, FilterConfig}
 use Rattle.filter_model.specs.Account.{ExchangeAccount, Flow, is_finished, is_released}
-use Rattle.filter_model.specs.Course.{Course, asked, body_room, committed, due, head_may_go}
+use Rattle.filter_model.specs.Course.{Course, asked, body_room, committed, due, head_may_go, is_over}
 use Rattle.filter_model.specs.Cut.{Cut, Gone, Malformed, PartAnswer, Refused, Spurious, part_answer}
 use Rattle.filter_model.specs.Half as half
 use Rattle.filter_model.specs.Half.{HalfCall, Answer, Settle, called}
 use Rattle.filter_model.specs.HalfRight.{MayRead}
 use Rattle.filter_model.specs.Sound.{Sound}
-use Rattle.filter_model.specs.Told.{ReadWell}
+use Rattle.filter_model.specs.Told.{ReadWell, told}
 use Rattle.filter_model.specs.View.{ViewEntry, Bytes, End, Lost, Answered, TooLong, Closed, NoStream, Tick, Starved, Sent, Given}
 
 -- Answers
@@ -117,6 +117,14 @@ abbrev pub AllFit : CourseConfig → Direction → List HalfCall → Course → 
 AllFit c d [] w = Unit {0}
 AllFit c d (call ∷ calls) w = CallFits c d w call × AllFit c d calls (asked c d (committed c d (called call w)))
 
+-- the same until the body is past its limit; and then it stays so, whatever of them follows
+abbrev pub FitUntilOver : CourseConfig → Direction → List HalfCall → Course → Type 0
+FitUntilOver c d [] w = Unit {0}
+FitUntilOver c d (call ∷ calls) w =
+    let next : Course = asked c d (committed c d (called call w)) in
+    CallFits c d w call × (is_over c next ≡ true → is_over c (told c d calls next) ≡ true)
+    × (is_over c next ≡ false → FitUntilOver c d calls next)
+
 -- What an entry leaves
 
 pub record SameFlow (f f' : Flow) : Type 0 where
@@ -126,7 +134,7 @@ pub record SameFlow (f f' : Flow) : Type 0 where
   pub given : f'.given ≡ f.given
   pub original : f'.course.original ≡ f.course.original
 
--- all but what is asked, answered and released, the heads and counts of the courses, the timers, the fate and the ending
+-- all but the asks, answers, heads, counts and releases of the courses, the timers, the fate and the ending
 pub record SameRest (a a' : ExchangeAccount) : Type 0 where
   pub request : SameFlow a.request a'.request
   pub response : SameFlow a.response a'.response

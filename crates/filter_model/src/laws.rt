@@ -19,7 +19,7 @@ ghost use Rattle.filter_model.specs.Right.{Call, Stepped, Took, Headline, IsHist
 ghost use Rattle.filter_model.specs.Sound.{Sound};
 ghost use Rattle.filter_model.specs.Step.{cut, ending_of, fate_under, is_departure, is_live, step, still_counts};
 ghost use Rattle.filter_model.specs.Told.{Comes, IsLetPass, IsNoCut, IsOfProcessor, IsOfSides, IsShort, ReadWell, asks_behind, known, more_given, news, told};
-ghost use Rattle.filter_model.specs.ToldMore.{AllFit, Arrives, BringsNoAnswer, EndsStream, IsAnswerTo, IsOfNoSide, IsTaken, ReadsNothing, SameRest, across, cut_for, head_news, other_calls, own_calls};
+ghost use Rattle.filter_model.specs.ToldMore.{AllFit, Arrives, BringsNoAnswer, EndsStream, FitUntilOver, IsAnswerTo, IsOfNoSide, IsTaken, ReadsNothing, SameRest, across, cut_for, head_news, other_calls, own_calls};
 ghost use Rattle.filter_model.specs.View.{ViewEntry, Answered, Given, Lost, Sent, Starved};
 ghost use Rattle.filter_model.specs.declared.calls.Loss.{Loss};
 ghost use Rattle.filter_model.specs.declared.calls.Side.{Side};
@@ -296,8 +296,8 @@ pub fn answer_told()
 /// Once the rest passes or all was given, an entry of the processor or of time, or want of memory, that is no cut tells
 /// the halves nothing; before, an answer with a timeout override tells them nothing. Both courses stay, and no ask
 /// follows. A timer starts where no ask is out, and the override starts it anew, once for each ask. Want of memory is
-/// no cut only when all was given, and an end of the stream only then or once the rest passes. Before, an answer that is
-/// no cut has a timeout override or is one to a part.
+/// no cut only when all was given, and an end of the stream only then or once the rest passes. Before, an answer that
+/// is no cut has a timeout override or is one to a part.
 pub fn nothing_told()
     ensures idle { (c : FilterConfig) (h : List Call) (e : ViewEntry) → IsHistory c (Stepped e ∷ h) → IsOfNoSide e
         → IsNoCut c e (account c h) → (is_released (account c h) ≡ true) ⊎ (is_finished c (account c h) ≡ true)
@@ -333,7 +333,8 @@ pub fn nothing_told()
 /// Each call that tells a half what its side brings may be told where it comes: the head once, behind it body bytes
 /// for which there is room, of a message that has a body and isn't whole. This holds where the side brings, behind the
 /// head, no more body than there was room for, and with the head at most a piece. Along a history it never brings more,
-/// as the body of a message grows by no more bytes than come.
+/// as the body of a message grows by no more bytes than come. Of an entry that is the cut it holds until the body is
+/// past its limit, where a half that is told in turn stops.
 pub fn news_fit()
     ensures fit { (c : CourseConfig) (d : Direction) (w : Course) (now : Original) → Comes c d w now →
         (is_some w.original.head ≡ true → length now.body - length w.original.body ≤ body_room c d w)
@@ -341,6 +342,13 @@ pub fn news_fit()
     ensures along { (c : FilterConfig) (h : List Call) (e : ViewEntry) → IsHistory c (Stepped e ∷ h) → IsOfSides e
         → IsNoCut c e (account c h) → c.course.piece ≤ c.course.mark → (d : Direction)
         → AllFit c.course d (news c.course d (known (course d (account c h)))
+        (course d (gathered e (account c h))).original) (known (course d (account c h))) }
+    ensures until_over { (c : CourseConfig) (d : Direction) (w : Course) (now : Original) → Arrives c d w now →
+        (is_some w.original.head ≡ true → length now.body - length w.original.body ≤ body_room c d w)
+        → FitUntilOver c d (news c d (known w) now) (known w) }
+    ensures along_until { (c : FilterConfig) (h : List Call) (e : ViewEntry) → IsHistory c (Stepped e ∷ h)
+        → IsOfSides e → is_live (account c h).fate ≡ true → c.course.piece ≤ c.course.mark → (d : Direction)
+        → FitUntilOver c.course d (news c.course d (known (course d (account c h)))
         (course d (gathered e (account c h))).original) (known (course d (account c h))) }
     ensures short { (c : FilterConfig) (h : List Call) (e : ViewEntry) → IsHistory c (Stepped e ∷ h) → IsOfSides e
         → (d : Direction) → IsShort c (course d (account c h)) (course d (gathered e (account c h))) }
