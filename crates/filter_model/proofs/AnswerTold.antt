@@ -22,11 +22,7 @@ use Rattle.filter_model.specs.Right.{Call, Stepped, IsHistory, account}
 use Rattle.filter_model.specs.Sound.{Sound}
 use Rattle.filter_model.specs.Step.{accepted, after, no_cut, on, step, step_if, under_cut, with_ending}
 use Rattle.filter_model.specs.Told.{IsNoCut, asks_behind, known, told}
-<<<<<<< HEAD
-use Rattle.filter_model.specs.ToldMore.{IsAnswerTo, across, other_calls, own_calls}
-=======
 use Rattle.filter_model.specs.ToldMore.{IsAnswerTo, across, cut_for, other_calls, own_calls}
->>>>>>> 12e9210e9123e920905634aa60edf0d2ec3ac906
 use Rattle.filter_model.specs.View.{Answered}
 use Rattle.filter_model.proofs.AtRest.{Rested, Steady, steady}
 use Rattle.filter_model.proofs.Known.{asked_known, committed_known}

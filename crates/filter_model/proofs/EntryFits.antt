@@ -34,7 +34,7 @@ within_room true read n m e = omega arith
 within_room false true n m e = omega arith
 within_room false false n m e = absurd cc
 
-grown_within : (c : FilterConfig) (e : ViewEntry) (a : ExchangeAccount) (d : Direction) → Read a → Fits c a e → IsOfSides e → is_some (course d a).original.head ≡ true
+pub grown_within : (c : FilterConfig) (e : ViewEntry) (a : ExchangeAccount) (d : Direction) → Read a → Fits c a e → IsOfSides e → is_some (course d a).original.head ≡ true
     → length (course d (gathered e a)).original.body - length (course d a).original.body ≤ body_room c.course d (course d a)
 unfolding gathered brought room
 grown_within c (Bytes Client bytes) a Request r f s i =

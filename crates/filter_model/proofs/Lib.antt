@@ -41,11 +41,9 @@ pub mod NothingTold
 pub mod NewsFit
 pub mod EndsUntold
 pub mod RestStays
-<<<<<<< HEAD
-=======
 pub mod ReadLate
 pub mod BodyWithin
 pub mod EntryFits
 pub mod CutHead
 pub mod OverTold
->>>>>>> 12e9210e9123e920905634aa60edf0d2ec3ac906
+pub mod FitUntil

@@ -25,7 +25,7 @@ clash e = cc
 
 -- Body bytes behind a head
 
-more_fits : (c : CourseConfig) (d : Direction) (w : Course) (now : Original) (bytes : List ℕ) → MayRead w → length bytes ≤ body_room c d w → CallFits c d w (more now bytes)
+pub more_fits : (c : CourseConfig) (d : Direction) (w : Course) (now : Original) (bytes : List ℕ) → MayRead w → length bytes ≤ body_room c d w → CallFits c d w (more now bytes)
 more_fits c d w now bytes m l = by now.whole
   where
     by : (b : Bool) → CallFits c d w (if b then half.End bytes now.trailers else half.Bytes bytes)
@@ -41,10 +41,10 @@ calls_fit c d w now bytes m l = by (not now.whole && is_empty bytes)
 
 -- The head and what is behind it
 
-abbrev Behind : ℕ → Original → Bool → List HalfCall
+abbrev pub Behind : ℕ → Original → Bool → List HalfCall
 Behind room now few = if few then Bytes (take room now.body) ∷ more now (drop room now.body) ∷ [] else more_calls now now.body
 
-begun_reads : (s : Start) (asks : List AskedPart) (o : Option Outgoing) (body : List ℕ) → is_bodiless s.length ≡ false → MayRead (begun s body [] false asks o)
+pub begun_reads : (s : Start) (asks : List AskedPart) (o : Option Outgoing) (body : List ℕ) → is_bodiless s.length ≡ false → MayRead (begun s body [] false asks o)
 begun_reads s asks o body e = record { read = refl; has_body = e; unfinished = refl }
 
 -- of the first bytes of a longer body no more than one is in no ask
@@ -64,7 +64,7 @@ rest_room c d s body o e f =
     fewer : (piece mark n : ℕ) → n ≤ 1 → min piece (mark - 1) ≤ min piece (mark - n)
     fewer piece mark n h = omega (arith, h)
 
-split_fits : (c : CourseConfig) (d : Direction) (s : Start) (now : Original) → HasBody (partial s) now → length now.body ≤ c.piece → c.piece ≤ c.mark
+pub split_fits : (c : CourseConfig) (d : Direction) (s : Start) (now : Original) → HasBody (partial s) now → length now.body ≤ c.piece → c.piece ≤ c.mark
     → nat_lt (first_room c (partial s)) (length now.body) ≡ true → let b = begins c d (partial s) in
     AllFit c d (Behind (first_room c (partial s)) now true) (begun (partial s) [] [] false b.asks b.head)
 split_fits c d s now h n z f = (

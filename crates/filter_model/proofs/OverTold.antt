@@ -40,7 +40,7 @@ unanswered_over c w e =
     ap (λ l. over_at c w (option_map (λ (q : AskedPart × Common). q.1) (find (λ (q : AskedPart × Common). is_headers q.0) l)))
     (ap (λ l. zip w.asks l) e ∙ zip_none w.asks)
 
-call_over : (c : CourseConfig) (d : Direction) (w : Course) → w.answers ≡ [] → is_over c (asked c d (committed c d w)) ≡ over_at c w None
+pub call_over : (c : CourseConfig) (d : Direction) (w : Course) → w.answers ≡ [] → is_over c (asked c d (committed c d w)) ≡ over_at c w None
 call_over c d w e = let n : length w.answers ≡ 0 = ap length e in over_told c d w (omega (arith, n)) ∙ unanswered_over c w e
 
 head_over : (c : CourseConfig) (d : Direction) (s : Start) (now : Original) → now.body ≡ []
@@ -59,7 +59,7 @@ one_over c d s now bytes = by now.whole
     by true = call_over c d (called (End bytes now.trailers) z) refl
     by false = call_over c d (called (Bytes bytes) z) refl
 
-two_over : (c : CourseConfig) (d : Direction) (s : Start) (now : Original) (first rest : List ℕ)
+pub two_over : (c : CourseConfig) (d : Direction) (s : Start) (now : Original) (first rest : List ℕ)
     → is_over c (told c d (head_of now s.head ∷ Bytes first ∷ more now rest ∷ []) (unbegun s)) ≡ is_over c (begun s (first ++ rest) now.trailers now.whole [] None)
 unfolding asked one_asked committed
 two_over c d s now first rest = by now.whole

@@ -1,26 +1,10 @@
 -- What an entry leaves beside the courses: all that it brings stands, and the fate, the timers and the ending are as the rules say.
-<<<<<<< HEAD
-use Rattle.std.proofs.Common.{sym, ◌∙◌, ap, refl}
-use Rattle.std.specs.Prelude.{ℕ, ◌≡◌, ◌+◌, Bool, true, false, not, ◌||◌, Option, Some, None, if◌then◌else◌, is_some}
-=======
 use Rattle.std.proofs.Common.{◌∙◌, ap, refl}
 use Rattle.std.specs.Prelude.{◌≡◌, ◌+◌, Bool, true, false, ◌||◌, Option, Some, None, if◌then◌else◌}
->>>>>>> 12e9210e9123e920905634aa60edf0d2ec3ac906
 use Rattle.ext_msgs.specs.declared.answer.Answer.{Answer as Answering}
 use Rattle.ext_msgs.specs.declared.answer.ModeNumbers.{ModeNumbers}
 use Rattle.ext_msgs.specs.declared.answer.Span.{Span}
 use Rattle.ext_msgs.specs.declared.modes.PartModes.{PartModes}
-<<<<<<< HEAD
-use Rattle.http_model.specs.Bytes.{is_empty}
-use Rattle.http_model.specs.declared.types.Direction.{Direction}
-use Rattle.http_model.specs.declared.types.Direction.TheVariants.{Request, Response}
-use Rattle.filter_model.specs.Config.{FilterConfig}
-use Rattle.filter_model.specs.Course.{asked, committed, one_asked, out}
-use Rattle.filter_model.specs.Account.{ExchangeAccount, Fate, Flow, Left, course, flow, gathered, brought, is_finished, is_out_in, is_released, settled}
-use Rattle.filter_model.specs.Answers.{answered, answered_by, asked_in, joined, overridden, override_of, part_answered}
-use Rattle.filter_model.specs.Cut.{Cut, PartAnswer, part_answer}
-use Rattle.filter_model.specs.Step.{rules, accepted, cut, effect, ending_of, fate_under, is_departure, is_live, lets_pass, no_cut, on, step, step_if, under_cut, under_departure, with_ending}
-=======
 use Rattle.http_model.specs.declared.types.Direction.{Direction}
 use Rattle.http_model.specs.declared.types.Direction.TheVariants.{Request, Response}
 use Rattle.filter_model.specs.Config.{FilterConfig}
@@ -28,7 +12,6 @@ use Rattle.filter_model.specs.Account.{ExchangeAccount, Flow, Left, flow, gather
 use Rattle.filter_model.specs.Answers.{answered, answered_by, joined, overridden, override_of, part_answered}
 use Rattle.filter_model.specs.Cut.{Cut, PartAnswer, part_answer}
 use Rattle.filter_model.specs.Step.{rules, accepted, cut, effect, ending_of, fate_under, is_departure, is_live, no_cut, on, step, step_if, under_cut, under_departure, with_ending}
->>>>>>> 12e9210e9123e920905634aa60edf0d2ec3ac906
 use Rattle.filter_model.specs.Told.{IsNoCut}
 use Rattle.filter_model.specs.ToldMore.{BringsNoAnswer, SameFlow, SameRest}
 use Rattle.filter_model.specs.View.{ViewEntry, Bytes, End, Lost, Answered, TooLong, Closed, NoStream, Tick, Starved, Sent, Given}

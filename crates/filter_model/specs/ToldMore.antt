@@ -1,9 +1,5 @@
 -- What the halves are told of an answer, and of which entries they are told nothing.
-<<<<<<< HEAD
-use Rattle.std.specs.Prelude.{◌≡◌, ◌≤◌, false, List, [], ◌∷◌, length, Option, Some, None}
-=======
 use Rattle.std.specs.Prelude.{◌≡◌, ◌≤◌, ◌⊎◌, true, false, List, [], ◌∷◌, length, Option, Some, None}
->>>>>>> 12e9210e9123e920905634aa60edf0d2ec3ac906
 use Rattle.ext_msgs.specs.declared.answer.Answer.{Answer as Answering}
 use Rattle.ext_msgs.specs.declared.answer.Common.{Common}
 use Rattle.ext_msgs.specs.declared.answer.Span.{Span}
@@ -15,26 +11,16 @@ use Rattle.http_model.specs.Reader.{Extends}
 use Rattle.http_model.specs.Reads.{Original}
 use Rattle.http_model.specs.declared.types.Direction.{Direction}
 use Rattle.http_model.specs.declared.types.Direction.TheVariants.{Request, Response}
-<<<<<<< HEAD
-use Rattle.filter_model.specs.Config.{CourseConfig, FilterConfig}
-use Rattle.filter_model.specs.Account.{ExchangeAccount, Flow, is_finished, is_released}
-use Rattle.filter_model.specs.Course.{Course, asked, body_room, committed}
-use Rattle.filter_model.specs.Cut.{PartAnswer, part_answer}
-use Rattle.filter_model.specs.Half as half
-use Rattle.filter_model.specs.Half.{HalfCall, Answer, Settle, called}
-use Rattle.filter_model.specs.HalfRight.{MayRead}
-=======
 use Rattle.http_model.specs.declared.types.Length.{Length}
 use Rattle.filter_model.specs.Config.{CourseConfig, FilterConfig}
 use Rattle.filter_model.specs.Account.{ExchangeAccount, Flow, is_finished, is_released}
-use Rattle.filter_model.specs.Course.{Course, asked, body_room, committed, due, head_may_go}
+use Rattle.filter_model.specs.Course.{Course, asked, body_room, committed, due, head_may_go, is_over}
 use Rattle.filter_model.specs.Cut.{Cut, Gone, Malformed, PartAnswer, Refused, Spurious, part_answer}
 use Rattle.filter_model.specs.Half as half
 use Rattle.filter_model.specs.Half.{HalfCall, Answer, Settle, called}
 use Rattle.filter_model.specs.HalfRight.{MayRead}
 use Rattle.filter_model.specs.Sound.{Sound}
-use Rattle.filter_model.specs.Told.{ReadWell}
->>>>>>> 12e9210e9123e920905634aa60edf0d2ec3ac906
+use Rattle.filter_model.specs.Told.{ReadWell, told}
 use Rattle.filter_model.specs.View.{ViewEntry, Bytes, End, Lost, Answered, TooLong, Closed, NoStream, Tick, Starved, Sent, Given}
 
 -- Answers
@@ -93,8 +79,6 @@ IsOfNoSide (Tick n) = Unit {0}
 IsOfNoSide Starved = Unit {0}
 IsOfNoSide _ = ⊥
 
-<<<<<<< HEAD
-=======
 -- the stream gives no more answers
 abbrev pub EndsStream : ViewEntry → Type 0
 EndsStream TooLong = Unit {0}
@@ -107,7 +91,6 @@ abbrev pub IsTaken : FilterConfig → ExchangeAccount → Option Answering → T
 IsTaken c a None = ⊥
 IsTaken c a (Some x) = ((t : Span) × (x.timeout ≡ Some t)) ⊎ ((p : PartAnswer) × IsAnswerTo c x p a)
 
->>>>>>> 12e9210e9123e920905634aa60edf0d2ec3ac906
 -- News
 
 -- a head, once, or body bytes for which there is room, before the end
@@ -117,8 +100,6 @@ CallFits c d w (half.Bytes bytes) = MayRead w × (length bytes ≤ body_room c d
 CallFits c d w (half.End bytes trailers) = MayRead w × (length bytes ≤ body_room c d w)
 CallFits c d w _ = ⊥
 
-<<<<<<< HEAD
-=======
 -- a course at rest reads on, whether the entry is a cut or not
 pub record Arrives (c : CourseConfig) (d : Direction) (w : Course) (now : Original) : Type 0 where
   pub sound : Sound c w
@@ -131,11 +112,18 @@ pub record Arrives (c : CourseConfig) (d : Direction) (w : Course) (now : Origin
   pub short : w.original.head ≡ None → length now.body ≤ c.piece
   pub sizes : c.piece ≤ c.mark
 
->>>>>>> 12e9210e9123e920905634aa60edf0d2ec3ac906
 -- each of the calls fits where it comes, oldest first
 abbrev pub AllFit : CourseConfig → Direction → List HalfCall → Course → Type 0
 AllFit c d [] w = Unit {0}
 AllFit c d (call ∷ calls) w = CallFits c d w call × AllFit c d calls (asked c d (committed c d (called call w)))
+
+-- the same until the body is past its limit; and then it stays so, whatever of them follows
+abbrev pub FitUntilOver : CourseConfig → Direction → List HalfCall → Course → Type 0
+FitUntilOver c d [] w = Unit {0}
+FitUntilOver c d (call ∷ calls) w =
+    let next : Course = asked c d (committed c d (called call w)) in
+    CallFits c d w call × (is_over c next ≡ true → is_over c (told c d calls next) ≡ true)
+    × (is_over c next ≡ false → FitUntilOver c d calls next)
 
 -- What an entry leaves
 
@@ -146,7 +134,7 @@ pub record SameFlow (f f' : Flow) : Type 0 where
   pub given : f'.given ≡ f.given
   pub original : f'.course.original ≡ f.course.original
 
--- all but what is asked, answered and released, the heads and counts of the courses, the timers, the fate and the ending
+-- all but the asks, answers, heads, counts and releases of the courses, the timers, the fate and the ending
 pub record SameRest (a a' : ExchangeAccount) : Type 0 where
   pub request : SameFlow a.request a'.request
   pub response : SameFlow a.response a'.response
@@ -164,8 +152,6 @@ BringsNoAnswer (Tick n) = Unit {0}
 BringsNoAnswer Sent = Unit {0}
 BringsNoAnswer (Given s bytes) = Unit {0}
 BringsNoAnswer _ = ⊥
-<<<<<<< HEAD
-=======
 
 -- of what its side brings, the head alone
 abbrev pub head_at : Option (List Field) → Option (List Field) → Length → List HalfCall
@@ -175,4 +161,3 @@ head_at (Some head) now n = []
 
 abbrev pub head_news : Original → Original → List HalfCall
 head_news before now = head_at before.head now.head now.length
->>>>>>> 12e9210e9123e920905634aa60edf0d2ec3ac906

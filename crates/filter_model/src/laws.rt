@@ -5,22 +5,22 @@ ghost use Rattle.ext_msgs.specs.declared.answer.Common.{Common};
 ghost use Rattle.ext_msgs.specs.declared.answer.ModeNumbers.{ModeNumbers};
 ghost use Rattle.ext_msgs.specs.declared.answer.Span.{Span};
 ghost use Rattle.ext_msgs.specs.declared.modes.PartModes.{PartModes};
-ghost use Rattle.filter_model.specs.Account.{ExchangeAccount, Live, course, from, gathered, given_count, is_finished, is_given_at, is_in, to, unsent, flow, front, is_out_in, is_released, Left, is_given, settled, is_to_head};
+ghost use Rattle.filter_model.specs.Account.{ExchangeAccount, Left, Live, course, flow, from, front, gathered, given_count, is_finished, is_given, is_in, is_out_in, is_released, is_to_head, settled, to, unsent, is_given_at};
 ghost use Rattle.filter_model.specs.AllGiven.{is_all_handed, is_nothing};
-ghost use Rattle.filter_model.specs.Answers.{extended_by, override_of, answered};
+ghost use Rattle.filter_model.specs.Answers.{answered, extended_by, override_of};
 ghost use Rattle.filter_model.specs.Config.{CourseConfig, FilterConfig};
 ghost use Rattle.filter_model.specs.Course.{Course, Changed, asked, body_of, body_room, changed, committed, due, is_headers, is_over, out, queue};
 ghost use Rattle.filter_model.specs.Cut.{AnswerKind, Cut, PartAnswer, is_whole_and_done, part_cut, peer_cut, processor_cut};
 ghost use Rattle.filter_model.specs.Given.{data_in};
 ghost use Rattle.filter_model.specs.Grown.{Grown};
 ghost use Rattle.filter_model.specs.Half.{HalfCall, Answer, Release, Settle, Sent as OneSent, Given as SoManyGiven, Past, Taken, MayGive, NothingDue, becomes, called, course as past_course, parts, progress, refusal, settled_modes};
-ghost use Rattle.filter_model.specs.HalfRight.{IsPast, framing_in, has_trailers, part_bytes, written_parts};
+ghost use Rattle.filter_model.specs.HalfRight.{IsPast, written_parts, framing_in, has_trailers, part_bytes};
 ghost use Rattle.filter_model.specs.Outgoing.{IsWire};
 ghost use Rattle.filter_model.specs.Right.{Call, Stepped, Took, Headline, IsHistory, account, ask_given, is_done};
 ghost use Rattle.filter_model.specs.Sound.{Sound};
 ghost use Rattle.filter_model.specs.Step.{cut, ending_of, fate_under, is_departure, is_live, step, still_counts};
 ghost use Rattle.filter_model.specs.Told.{Comes, IsLetPass, IsNoCut, IsOfProcessor, IsOfSides, IsShort, ReadWell, asks_behind, known, more_given, news, told};
-ghost use Rattle.filter_model.specs.ToldMore.{AllFit, BringsNoAnswer, IsAnswerTo, IsOfNoSide, ReadsNothing, SameRest, across, other_calls, own_calls, Arrives, EndsStream, IsTaken, cut_for, head_news};
+ghost use Rattle.filter_model.specs.ToldMore.{AllFit, Arrives, BringsNoAnswer, EndsStream, FitUntilOver, IsAnswerTo, IsOfNoSide, IsTaken, ReadsNothing, SameRest, across, cut_for, head_news, other_calls, own_calls};
 ghost use Rattle.filter_model.specs.View.{ViewEntry, Answered, Given, Lost, Sent, Starved};
 ghost use Rattle.filter_model.specs.declared.calls.Loss.{Loss};
 ghost use Rattle.filter_model.specs.declared.calls.Side.{Side};
@@ -31,7 +31,7 @@ ghost use Rattle.http_model.specs.declared.types.Direction.{Direction};
 ghost use Rattle.http_model.specs.declared.types.Direction.TheVariants.{Request, Response};
 ghost use Rattle.http_model.specs.declared.types.Out.{Out};
 ghost use Rattle.std.specs.List.{list_any};
-ghost use Rattle.std.specs.Prelude.{None, is_some, Bool, List, [], map, reverse, filter_map, true, false, ◌&&◌, ◌∷◌, ◌++◌, ◌≡◌, ◌<◌, ◌≤◌, ◌+◌, ◌-◌, ◌⊎◌, ℕ, drop, length, nat_le, take, if◌then◌else◌, Some, Option};
+ghost use Rattle.std.specs.Prelude.{None, Option, Some, is_some, Bool, List, [], map, reverse, filter_map, true, false, ◌∷◌, ◌++◌, ◌≡◌, ◌≤◌, ◌+◌, ◌-◌, ◌⊎◌, ℕ, drop, length, take, if◌then◌else◌, ◌&&◌, ◌<◌, nat_le};
 
 /// In every history the asks that went out are the first of those made, in order.
 pub fn asks_in_order()
@@ -311,8 +311,8 @@ pub fn answer_told()
 /// Once the rest passes or all was given, an entry of the processor or of time, or want of memory, that is no cut tells
 /// the halves nothing; before, an answer with a timeout override tells them nothing. Both courses stay, and no ask
 /// follows. A timer starts where no ask is out, and the override starts it anew, once for each ask. Want of memory is
-/// no cut only when all was given, and an end of the stream only then or once the rest passes. Before, an answer that is
-/// no cut has a timeout override or is one to a part.
+/// no cut only when all was given, and an end of the stream only then or once the rest passes. Before, an answer that
+/// is no cut has a timeout override or is one to a part.
 pub fn nothing_told()
     ensures idle { (c : FilterConfig) (h : List Call) (e : ViewEntry) → IsHistory c (Stepped e ∷ h) → IsOfNoSide e
         → IsNoCut c e (account c h) → (is_released (account c h) ≡ true) ⊎ (is_finished c (account c h) ≡ true)
@@ -348,7 +348,8 @@ pub fn nothing_told()
 /// Each call that tells a half what its side brings may be told where it comes: the head once, behind it body bytes
 /// for which there is room, of a message that has a body and isn't whole. This holds where the side brings, behind the
 /// head, no more body than there was room for, and with the head at most a piece. Along a history it never brings more,
-/// as the body of a message grows by no more bytes than come.
+/// as the body of a message grows by no more bytes than come. Of an entry that is the cut it holds until the body is
+/// past its limit, where a half that is told in turn stops.
 pub fn news_fit()
     ensures fit { (c : CourseConfig) (d : Direction) (w : Course) (now : Original) → Comes c d w now →
         (is_some w.original.head ≡ true → length now.body - length w.original.body ≤ body_room c d w)
@@ -356,6 +357,13 @@ pub fn news_fit()
     ensures along { (c : FilterConfig) (h : List Call) (e : ViewEntry) → IsHistory c (Stepped e ∷ h) → IsOfSides e
         → IsNoCut c e (account c h) → c.course.piece ≤ c.course.mark → (d : Direction)
         → AllFit c.course d (news c.course d (known (course d (account c h)))
+        (course d (gathered e (account c h))).original) (known (course d (account c h))) }
+    ensures until_over { (c : CourseConfig) (d : Direction) (w : Course) (now : Original) → Arrives c d w now →
+        (is_some w.original.head ≡ true → length now.body - length w.original.body ≤ body_room c d w)
+        → FitUntilOver c d (news c d (known w) now) (known w) }
+    ensures along_until { (c : FilterConfig) (h : List Call) (e : ViewEntry) → IsHistory c (Stepped e ∷ h)
+        → IsOfSides e → is_live (account c h).fate ≡ true → c.course.piece ≤ c.course.mark → (d : Direction)
+        → FitUntilOver c.course d (news c.course d (known (course d (account c h)))
         (course d (gathered e (account c h))).original) (known (course d (account c h))) }
     ensures short { (c : FilterConfig) (h : List Call) (e : ViewEntry) → IsHistory c (Stepped e ∷ h) → IsOfSides e
         → (d : Direction) → IsShort c (course d (account c h)) (course d (gathered e (account c h))) }
@@ -417,56 +425,4 @@ pub fn cut_head()
         ≡ is_some (told c.course d (head_news (course d (account c h)).original
         (course d (gathered e (account c h))).original) (known (course d (account c h)))).head }
     ensures to_head { (c : FilterConfig) (a : ExchangeAccount) → is_to_head (settled c a) ≡ is_to_head a }
-{}
-
-/// Each call that tells a half what its side brings may be told where it comes: the head once, behind it body bytes
-/// for which there is room, of a message that has a body and isn't whole. This holds where the side brings, behind the
-/// head, no more body than there was room for, and with the head at most a piece.
-pub fn news_fit()
-    ensures { (c : CourseConfig) (d : Direction) (w : Course) (now : Original) → Comes c d w now →
-        (is_some w.original.head ≡ true → length now.body - length w.original.body ≤ body_room c d w)
-        → AllFit c d (news c d (known w) now) (known w) }
-{}
-
-/// A cut that ends an exchange, or the client's leaving, tells the halves nothing that counts: the asks that were made
-/// stay, and each message was given whole afterwards only where it was before. After an end neither changes: of all
-/// entries of the two sides, of the processor and of time only an ask that was sent counts.
-pub fn untold()
-    ensures made { (c : FilterConfig) (e : ViewEntry) (a : ExchangeAccount) → is_live a.fate ≡ true
-        → is_live (step c e a).fate ≡ false → (step c e a).made ≡ a.made }
-    ensures given { (c : FilterConfig) (h : List Call) (e : ViewEntry) → IsHistory c (Stepped e ∷ h)
-        → is_live (account c h).fate ≡ true → is_live (account c (Stepped e ∷ h)).fate ≡ false → (d : Direction)
-        → is_given c (account c (Stepped e ∷ h)) d ≡ is_given c (account c h) d }
-    ensures after_given { (c : FilterConfig) (h : List Call) (e : ViewEntry) → IsHistory c (Stepped e ∷ h)
-        → is_live (account c h).fate ≡ false → (d : Direction)
-        → is_given c (account c (Stepped e ∷ h)) d ≡ is_given c (account c h) d }
-    ensures after_asks { (c : FilterConfig) (e : ViewEntry) (a : ExchangeAccount) → is_live a.fate ≡ false
-        → (d : Direction) → ((course d (step c e a)).asks ≡ (course d a).asks) × ((step c e a).made ≡ a.made) }
-    ensures after_same { (c : FilterConfig) (e : ViewEntry) (a : ExchangeAccount) → is_live a.fate ≡ false
-        → still_counts e ≡ false → step c e a ≡ a }
-{}
-
-/// Beside the courses, the asks and the sides of the halves: what an entry brings to a live exchange stands, cut or not.
-/// Its fate changes only where it is a cut or the client's leaving, and its ending as the account then says. A timer
-/// starts in a direction in which no ask is out, by an entry that is no cut; a cut leaves it.
-pub fn rest_stays()
-    ensures same { (c : FilterConfig) (e : ViewEntry) (a : ExchangeAccount) → is_live a.fate ≡ true
-        → SameRest (gathered e a) (step c e a) }
-    ensures fate { (c : FilterConfig) (e : ViewEntry) (a : ExchangeAccount) → IsNoCut c e a
-        → (step c e a).fate ≡ a.fate }
-    ensures cut_fate { (c : FilterConfig) (e : ViewEntry) (a : ExchangeAccount) (k : Cut) → is_live a.fate ≡ true
-        → is_departure e (gathered e a) ≡ false → cut c e (gathered e a) ≡ Some k
-        → (step c e a).fate ≡ fate_under c k (settled c (gathered e a)) }
-    ensures left { (c : FilterConfig) (e : ViewEntry) (a : ExchangeAccount) → is_live a.fate ≡ true
-        → is_departure e (gathered e a) ≡ true → (step c e a).fate ≡ Left }
-    ensures ending { (c : FilterConfig) (e : ViewEntry) (a : ExchangeAccount) → is_live a.fate ≡ true
-        → (step c e a).ending ≡ ending_of c (record (step c e a) { ending = a.ending }) }
-    ensures timer { (c : FilterConfig) (e : ViewEntry) (a : ExchangeAccount) → BringsNoAnswer e → IsNoCut c e a
-        → (d : Direction) → ((flow d (step c e a)).deadline
-        ≡ (if is_out_in a d then (flow d a).deadline else (gathered e a).now + c.timeout_ms))
-        × ((flow d (step c e a)).extended ≡ (flow d a).extended) }
-    ensures cut_timer { (c : FilterConfig) (e : ViewEntry) (a : ExchangeAccount) (k : Cut) → is_live a.fate ≡ true
-        → is_departure e (gathered e a) ≡ false → cut c e (gathered e a) ≡ Some k → (d : Direction)
-        → ((flow d (step c e a)).deadline ≡ (flow d a).deadline)
-        × ((flow d (step c e a)).extended ≡ (flow d a).extended) }
 {}
