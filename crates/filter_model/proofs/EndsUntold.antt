@@ -76,7 +76,7 @@ read_ok d bytes ended (Whole h rest) e =
 read_ok d bytes ended Partial e = absurd cc
 read_ok d bytes ended (Bad f) e = absurd cc
 
-faulty_part : (d : Direction) (to_head : Bool) (bytes : List ℕ) (ended : Bool) → ((reads d to_head bytes ended).fault ≡ None → ⊥) → (reads d to_head bytes ended).whole ≡ false
+pub faulty_part : (d : Direction) (to_head : Bool) (bytes : List ℕ) (ended : Bool) → ((reads d to_head bytes ended).fault ≡ None → ⊥) → (reads d to_head bytes ended).whole ≡ false
 unfolding reads
 faulty_part d to_head bytes ended n = by (reads d to_head bytes ended).whole refl
   where
@@ -87,7 +87,7 @@ faulty_part d to_head bytes ended n = by (reads d to_head bytes ended).whole ref
 -- Why an entry of a side is a cut
 
 -- it brings nothing to this direction, or takes the body past its limit, or is faulty
-abbrev Reason : FilterConfig → Direction → Original → Course → Type 0
+abbrev pub Reason : FilterConfig → Direction → Original → Course → Type 0
 Reason c d before w = (w.original ≡ before) ⊎ ((is_over c.course w ≡ true) ⊎ (w.original.whole ≡ false))
 
 why : (f r : Bool) (over peer : Option Cut) (k : Cut) → cut_at f r None over peer ≡ Some k → (is_some over ≡ true) ⊎ (is_some peer ≡ true)
@@ -108,7 +108,7 @@ second_over true y p q e f = absurd cc
 second_over false true p q e f = refl
 second_over false false p q e f = absurd cc
 
-some_fault : (f : Fault → Cut) (o : Option Fault) → is_some (option_map f o) ≡ true → o ≡ None → ⊥
+pub some_fault : (f : Fault → Cut) (o : Option Fault) → is_some (option_map f o) ≡ true → o ≡ None → ⊥
 some_fault f None e n = clash (sym e)
 some_fault f (Some x) e n = cc
 
@@ -227,7 +227,7 @@ longer_given c d w o n h f g s t u k l r =
     by (inl e) z = ap (λ x. (changed_at c v x (replacement d v)).ended) (sym k) ∙ over_unended c d w o n s t u l.unfinished e
     by (inr e) z = ap (λ x. (changed_at c v (Some h) x).ended) z ∙ kept_unended c v h e
 
-read_given : (c : FilterConfig) (d : Direction) (w : Course) (o : Original) (n : ℕ) (h : Outgoing) (f g : List ℕ) → Sound c.course w → Firm w → Sound c.course (read_on w o n) → w.head ≡ Some h → Extends w.original o
+pub read_given : (c : FilterConfig) (d : Direction) (w : Course) (o : Original) (n : ℕ) (h : Outgoing) (f g : List ℕ) → Sound c.course w → Firm w → Sound c.course (read_on w o n) → w.head ≡ Some h → Extends w.original o
     → Reason c d w.original (read_on w o n) → is_given_at d (Some h) (changed c.course d (read_on w o n)) f g ≡ is_given_at d (Some h) (changed c.course d w) f g
 unfolding course_rules
 read_given c d w o n h f g s t u k x (inl e) = ap (λ z. is_given_at d (Some h) (changed c.course d (read_on w z n)) f g) e

@@ -47,3 +47,4 @@ pub mod EntryFits
 pub mod CutHead
 pub mod OverTold
 pub mod FitUntil
+pub mod SideCuts

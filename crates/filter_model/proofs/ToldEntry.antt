@@ -162,7 +162,7 @@ changed_some c d w o e n = by w.head (replacement d w) e n
     by (Some x) (Some b) e n = cc
     by (Some x) None e n = cc
 
-front_same : (c : FilterConfig) (e : ViewEntry) (a : ExchangeAccount) (d : Direction) (o : Outgoing) → Held c a → Read a → Extends a.request.course.original (now Request e a)
+pub front_same : (c : FilterConfig) (e : ViewEntry) (a : ExchangeAccount) (d : Direction) (o : Outgoing) → Held c a → Read a → Extends a.request.course.original (now Request e a)
     → (course d a).head ≡ Some o → front d (gathered e a) ≡ front d a
 front_same c e a Request o h r x k = refl
 front_same c e a Response o h r x k = by (front_read c a (now Request e a) h x (silent a r))

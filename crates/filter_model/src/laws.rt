@@ -10,13 +10,14 @@ ghost use Rattle.filter_model.specs.AllGiven.{is_all_handed, is_nothing};
 ghost use Rattle.filter_model.specs.Answers.{answered, extended_by, override_of};
 ghost use Rattle.filter_model.specs.Config.{CourseConfig, FilterConfig};
 ghost use Rattle.filter_model.specs.Course.{Course, Changed, asked, body_of, body_room, changed, committed, due, is_headers, is_over, out, queue};
-ghost use Rattle.filter_model.specs.Cut.{AnswerKind, Cut, PartAnswer, is_whole_and_done, part_cut, peer_cut, processor_cut};
+ghost use Rattle.filter_model.specs.Cut.{AnswerKind, Cut, PartAnswer, fault_cut, is_whole_and_done, part_cut, peer_cut, processor_cut};
 ghost use Rattle.filter_model.specs.Given.{data_in};
 ghost use Rattle.filter_model.specs.Grown.{Grown};
 ghost use Rattle.filter_model.specs.Half.{HalfCall, Answer, Release, Settle, Sent as OneSent, Given as SoManyGiven, Past, Taken, MayGive, NothingDue, becomes, called, course as past_course, parts, progress, refusal, settled_modes};
 ghost use Rattle.filter_model.specs.HalfRight.{IsPast, written_parts, framing_in, has_trailers, part_bytes};
 ghost use Rattle.filter_model.specs.Outgoing.{IsWire};
 ghost use Rattle.filter_model.specs.Right.{Call, Stepped, Took, Headline, IsHistory, account, ask_given, is_done};
+ghost use Rattle.filter_model.specs.Sides.{IsReadOf, read_cut};
 ghost use Rattle.filter_model.specs.Sound.{Sound};
 ghost use Rattle.filter_model.specs.Step.{cut, ending_of, fate_under, is_departure, is_live, step, still_counts};
 ghost use Rattle.filter_model.specs.Told.{Comes, IsLetPass, IsNoCut, IsOfProcessor, IsOfSides, IsShort, ReadWell, asks_behind, known, more_given, news, told};
@@ -425,4 +426,13 @@ pub fn cut_head()
         ≡ is_some (told c.course d (head_news (course d (account c h)).original
         (course d (gathered e (account c h))).original) (known (course d (account c h)))).head }
     ensures to_head { (c : FilterConfig) (a : ExchangeAccount) → is_to_head (settled c a) ≡ is_to_head a }
+{}
+
+/// What cut the bytes or the end of a side are: none once both messages were given before, and else its body is past its
+/// limit, or it is faulty. For reading on gives nothing whole that is a cut, and leaves what was given whole.
+pub fn side_cuts()
+    ensures { (c : FilterConfig) (h : List Call) (s : Side) (e : ViewEntry) → IsHistory c (Stepped e ∷ h)
+        → IsReadOf s e → is_live (account c h).fate ≡ true → cut c e (gathered e (account c h))
+        ≡ read_cut (is_finished c (account c h)) (is_over c.course (course (from s) (gathered e (account c h))))
+        (from s) (fault_cut (gathered e (account c h)) (from s)) }
 {}
