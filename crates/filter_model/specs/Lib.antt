@@ -16,3 +16,4 @@ pub mod Told
 pub mod ToldMore
 pub mod Right
 pub mod Held
+pub mod InTurn
