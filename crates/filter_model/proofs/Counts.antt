@@ -1,6 +1,6 @@
 -- Along a history the asks made and sent in each direction are those among the asks made and sent in all.
 use Rattle.std.proofs.Common.{sym, ◌∙◌, ap, refl, arith, append_assoc, length-append, take_all}
-use Rattle.std.proofs.lemmas.List.{take-append-le, drop_at}
+use Rattle.std.proofs.lemmas.List.{append-nil, drop_at, map-append, take-append-le}
 use Rattle.std.specs.Prelude.{ℕ, zero, suc, ◌≡◌, ◌+◌, ◌≤◌, ◌||◌, Bool, true, false, List, [], ◌∷◌, ◌++◌, length, take, drop, map, Option, Some, None, if◌then◌else◌, is_some, option_map, slice_get}
 use Rattle.ext_msgs.specs.declared.answer.Answer.{Answer}
 use Rattle.ext_msgs.specs.declared.answer.ModeNumbers.{ModeNumbers}
@@ -11,9 +11,10 @@ use Rattle.http_model.specs.declared.types.Direction.{Direction}
 use Rattle.http_model.specs.declared.types.Direction.TheVariants.{Request, Response}
 use Rattle.filter_model.specs.Config.{CourseConfig, FilterConfig}
 use Rattle.filter_model.specs.Course.{Course, AskedPart, Headers, Body, Trailers, due, one_asked, asked}
-use Rattle.filter_model.specs.Account.{ExchangeAccount, gathered, settled, brought, one_sent, direction_of, is_in, sent_if, start, is_released, is_finished}
+use Rattle.filter_model.specs.Account.{ExchangeAccount, course, gathered, settled, brought, one_sent, direction_of, is_in, sent_if, start, is_released, is_finished}
 use Rattle.filter_model.specs.Cut.{Cut, PartAnswer, part_answer}
 use Rattle.filter_model.specs.Answers.{answered, answered_by, part_answered, joined, override_of, overridden, asked_in, ask_of}
+use Rattle.filter_model.specs.InTurn.{asks_if, asks_in}
 use Rattle.filter_model.specs.Step.{rules, step, step_if, after_end, still_counts, under_cut, under_departure, no_cut, cut, is_departure, is_live, accepted, with_ending, on, effect}
 use Rattle.filter_model.specs.View.{ViewEntry, Bytes, End, Lost, Answered, TooLong, Closed, NoStream, Tick, Starved, Sent, Given}
 use Rattle.filter_model.specs.declared.calls.Side.TheVariants.{Client, Upstream}
@@ -70,7 +71,55 @@ tally_response (p ∷ l) = ap (λ x. one_if (is_in Response (Some x)) + tally Re
     none : tally Response (map (ask_of Request) l) ≡ 0 → 0 + tally Response (map (ask_of Request) l) ≡ 0
     none e = omega (arith, e)
 
+-- the asks of a direction
+
+in_append : (d : Direction) (xs ys : List Ask) → asks_in d (xs ++ ys) ≡ asks_in d xs ++ asks_in d ys
+in_append d [] ys = refl
+in_append d (x ∷ xs) ys = by (is_in d (Some (direction_of x))) (in_append d xs ys)
+  where
+    by : (b : Bool) → asks_in d (xs ++ ys) ≡ asks_in d xs ++ asks_in d ys
+        → asks_if b x (asks_in d (xs ++ ys)) ≡ asks_if b x (asks_in d xs) ++ asks_in d ys
+    by true e = ap (λ zs. x ∷ zs) e
+    by false e = e
+
+own_asks : (d : Direction) (l : List AskedPart) → asks_in d (map (ask_of d) l) ≡ map (ask_of d) l
+own_asks d [] = refl
+own_asks d (p ∷ l) = ap (λ x. asks_if (is_in d (Some x)) (ask_of d p) (asks_in d (map (ask_of d) l))) (direction_of_ask d p) ∙ own d ∙ ap (λ zs. ask_of d p ∷ zs) (own_asks d l)
+  where
+    own : (d : Direction) → asks_if (is_in d (Some d)) (ask_of d p) (asks_in d (map (ask_of d) l)) ≡ ask_of d p ∷ asks_in d (map (ask_of d) l)
+    own Request = refl
+    own Response = refl
+
+no_request : (l : List AskedPart) → asks_in Request (map (ask_of Response) l) ≡ []
+no_request [] = refl
+no_request (p ∷ l) = ap (λ x. asks_if (is_in Request (Some x)) (ask_of Response p) (asks_in Request (map (ask_of Response) l))) (direction_of_ask Response p) ∙ no_request l
+
+no_response : (l : List AskedPart) → asks_in Response (map (ask_of Request) l) ≡ []
+no_response [] = refl
+no_response (p ∷ l) = ap (λ x. asks_if (is_in Response (Some x)) (ask_of Request p) (asks_in Response (map (ask_of Request) l))) (direction_of_ask Request p) ∙ no_response l
+
+tally_is : (d : Direction) (xs : List Ask) → length (asks_in d xs) ≡ tally d xs
+tally_is d [] = refl
+tally_is d (x ∷ xs) = by (is_in d (Some (direction_of x))) (tally_is d xs)
+  where
+    by : (b : Bool) → length (asks_in d xs) ≡ tally d xs → length (asks_if b x (asks_in d xs)) ≡ one_if b + tally d xs
+    by true e = omega (arith, e)
+    by false e = omega (arith, e)
+
+-- asks of this direction, and then of that
+more_own : (d : Direction) (made : List Ask) (asks more : List AskedPart) (asks' : List AskedPart) (new : List AskedPart) → asks' ≡ asks ++ more → new ≡ more
+    → asks_in d made ≡ map (ask_of d) asks → asks_in d (made ++ map (ask_of d) new) ≡ map (ask_of d) asks'
+more_own d made asks more asks' new e n k =
+    in_append d made (map (ask_of d) new)
+    ∙ ap (λ xs. xs ++ asks_in d (map (ask_of d) new)) k ∙ ap (λ xs. map (ask_of d) asks ++ xs) (own_asks d new)
+    ∙ ap (λ xs. map (ask_of d) asks ++ map (ask_of d) xs) n ∙ sym (map-append (ask_of d) asks more) ∙ ap (map (ask_of d)) (sym e)
+
+none_own : (d : Direction) (made more : List Ask) (asks : List AskedPart) → asks_in d more ≡ [] → asks_in d made ≡ map (ask_of d) asks → asks_in d (made ++ more) ≡ map (ask_of d) asks
+none_own d made more asks e k = in_append d made more ∙ ap (λ xs. asks_in d made ++ xs) e ∙ append-nil (asks_in d made) ∙ k
+
 pub record Counts (a : ExchangeAccount) : Type 0 where
+  pub request_asks : asks_in Request a.made ≡ map (ask_of Request) a.request.course.asks
+  pub response_asks : asks_in Response a.made ≡ map (ask_of Response) a.response.course.asks
   pub bound : a.sent ≤ length a.made
   pub request_made : length a.request.course.asks ≡ tally Request a.made
   pub response_made : length a.response.course.asks ≡ tally Response a.made
@@ -78,7 +127,7 @@ pub record Counts (a : ExchangeAccount) : Type 0 where
   pub response_sent : a.response.course.sent ≡ tally Response (take a.sent a.made)
 
 pub counts_first : (c : FilterConfig) → Counts (start c)
-counts_first c = record { bound = omega arith; request_made = refl; response_made = refl; request_sent = refl; response_sent = refl }
+counts_first c = record { request_asks = refl; response_asks = refl; bound = omega arith; request_made = refl; response_made = refl; request_sent = refl; response_sent = refl }
 
 -- One ask more is sent
 
@@ -114,8 +163,10 @@ sent_counts a k = by (slice_get a.made a.sent) refl
       response = sent_if (is_in Response (option_map direction_of o)) a.response;
       sent = if is_some (option_map direction_of o) then suc a.sent else a.sent;
     })
-    by None e = record { bound = k.bound; request_made = k.request_made; response_made = k.response_made; request_sent = k.request_sent; response_sent = k.response_sent }
+    by None e = record { request_asks = k.request_asks; response_asks = k.response_asks; bound = k.bound; request_made = k.request_made; response_made = k.response_made; request_sent = k.request_sent; response_sent = k.response_sent }
     by (Some x) e = record {
+      request_asks = k.request_asks;
+      response_asks = k.response_asks;
       bound = within a.made a.sent x e;
       request_made = k.request_made;
       response_made = k.response_made;
@@ -148,6 +199,8 @@ asked_counts c Request a k =
     let new : drop (length a.request.course.asks) (asked c.course Request a.request.course).asks ≡ m.0 = new_asks a.request.course.asks (asked c.course Request a.request.course).asks m.0 m.1 in
     let made : List Ask = map (ask_of Request) (drop (length a.request.course.asks) (asked c.course Request a.request.course).asks) in
     record {
+      request_asks = more_own Request a.made a.request.course.asks m.0 (asked c.course Request a.request.course).asks (drop (length a.request.course.asks) (asked c.course Request a.request.course).asks) m.1 new k.request_asks;
+      response_asks = none_own Response a.made made a.response.course.asks (no_response (drop (length a.request.course.asks) (asked c.course Request a.request.course).asks)) k.response_asks;
       bound = omega (arith, k.bound, length-append a.made made);
       request_made = ap length m.1 ∙ length-append a.request.course.asks m.0
           ∙ sum k.request_made (sym (ap (λ l. tally Request (map (ask_of Request) l)) new ∙ tally_own Request m.0)) ∙ sym (tally-append Request a.made made);
@@ -166,6 +219,8 @@ asked_counts c Response a k =
     let new : drop (length a.response.course.asks) (asked c.course Response a.response.course).asks ≡ m.0 = new_asks a.response.course.asks (asked c.course Response a.response.course).asks m.0 m.1 in
     let made : List Ask = map (ask_of Response) (drop (length a.response.course.asks) (asked c.course Response a.response.course).asks) in
     record {
+      response_asks = more_own Response a.made a.response.course.asks m.0 (asked c.course Response a.response.course).asks (drop (length a.response.course.asks) (asked c.course Response a.response.course).asks) m.1 new k.response_asks;
+      request_asks = none_own Request a.made made a.request.course.asks (no_request (drop (length a.response.course.asks) (asked c.course Response a.response.course).asks)) k.request_asks;
       bound = omega (arith, k.bound, length-append a.made made);
       request_made = k.request_made ∙ none (tally_request (drop (length a.response.course.asks) (asked c.course Response a.response.course).asks)) ∙ sym (tally-append Request a.made made);
       response_made = ap length m.1 ∙ length-append a.response.course.asks m.0
@@ -185,6 +240,8 @@ asked_counts c Response a k =
 abbrev again : {a b : ExchangeAccount} → Counts a → b.sent ≡ a.sent → b.made ≡ a.made → b.request.course.asks ≡ a.request.course.asks → b.response.course.asks ≡ a.response.course.asks
     → b.request.course.sent ≡ a.request.course.sent → b.response.course.sent ≡ a.response.course.sent → Counts b
 again {a = a} {b = b} k s m p q u v = record {
+  request_asks = ap (asks_in Request) m ∙ k.request_asks ∙ ap (map (ask_of Request)) (sym p);
+  response_asks = ap (asks_in Response) m ∙ k.response_asks ∙ ap (map (ask_of Response)) (sym q);
   bound = omega (arith, k.bound, s, ap length m);
   request_made = ap length p ∙ k.request_made ∙ ap (tally Request) (sym m);
   response_made = ap length q ∙ k.response_made ∙ ap (tally Response) (sym m);
@@ -272,3 +329,13 @@ pub all_sent : (a : ExchangeAccount) → Counts a → length a.made ≡ a.sent
 all_sent a k e =
     let all : take a.sent a.made ≡ a.made = take_all a.sent a.made (omega (arith, e)) in
     (k.request_sent ∙ ap (tally Request) all ∙ sym k.request_made, k.response_sent ∙ ap (tally Response) all ∙ sym k.response_made)
+
+-- Along a history
+
+pub asks_are : (d : Direction) (a : ExchangeAccount) → Counts a → asks_in d a.made ≡ map (ask_of d) (course d a).asks
+asks_are Request a k = k.request_asks
+asks_are Response a k = k.response_asks
+
+pub sent_are : (d : Direction) (a : ExchangeAccount) → Counts a → length (asks_in d (take a.sent a.made)) ≡ (course d a).sent
+sent_are Request a k = tally_is Request (take a.sent a.made) ∙ sym k.request_sent
+sent_are Response a k = tally_is Response (take a.sent a.made) ∙ sym k.response_sent

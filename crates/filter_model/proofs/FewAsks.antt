@@ -1,7 +1,7 @@
 -- At most four asks of a direction aren't sent, and so at most eight of both.
 use Rattle.std.proofs.Common.{refl, arith, ltb-true, length-append}
 use Rattle.std.proofs.lemmas.List.{length-take-le}
-use Rattle.std.specs.Prelude.{ℕ, suc, ◌≡◌, ◌+◌, ◌-◌, ◌<◌, ◌≤◌, min, Bool, true, false, ◌&&◌, ◌||◌, List, [], ◌∷◌, ◌++◌, length, take, Option, Some, None, if◌then◌else◌, option_to_list, nat_lt, nat_le}
+use Rattle.std.specs.Prelude.{ℕ, suc, ◌≡◌, ◌+◌, ◌-◌, ◌<◌, ◌≤◌, min, Bool, true, false, ◌&&◌, ◌||◌, List, [], ◌∷◌, ◌++◌, length, take, map, Option, Some, None, if◌then◌else◌, option_to_list, nat_lt, nat_le}
 use Rattle.ext_msgs.specs.declared.answer.Answer.{Answer}
 use Rattle.ext_msgs.specs.declared.answer.ModeNumbers.{ModeNumbers}
 use Rattle.ext_msgs.specs.declared.answer.Span.{Span}
@@ -12,13 +12,14 @@ use Rattle.filter_model.specs.Config.{CourseConfig, FilterConfig}
 use Rattle.filter_model.specs.Course.{Course, AskedPart, next, is_permitted, queue, one_asked, asked, ask_limit}
 use Rattle.filter_model.specs.Account.{ExchangeAccount, course, gathered, settled, brought, is_in, direction_of, unsent, is_released, is_finished}
 use Rattle.filter_model.specs.Cut.{Cut, PartAnswer, part_answer}
-use Rattle.filter_model.specs.Answers.{answered, answered_by, part_answered, asked_in}
+use Rattle.filter_model.specs.Answers.{answered, answered_by, part_answered, ask_of, asked_in}
+use Rattle.filter_model.specs.InTurn.{asks_in}
 use Rattle.filter_model.specs.Right.{Call, Stepped, Took, Nexted, Failed, account}
 use Rattle.filter_model.specs.Step.{rules, step, step_if, after, after_end, still_counts, under_cut, under_departure, no_cut, cut, is_departure, is_live, accepted, with_ending, on, effect}
 use Rattle.filter_model.specs.View.{ViewEntry, Bytes, End, Lost, Answered, TooLong, Closed, NoStream, Tick, Starved, Sent, Given}
 use Rattle.filter_model.specs.declared.calls.Side.TheVariants.{Client, Upstream}
 use Rattle.filter_model.specs.declared.calls.Taken.TheVariants.{Piece}
-use Rattle.filter_model.proofs.Counts.{Counts, counts_first, step_counts, tally}
+use Rattle.filter_model.proofs.Counts.{Counts, asks_are, counts_first, sent_are, step_counts, tally}
 
 abbrev IsFew : Course → Type 0
 IsFew w = length w.asks ≤ w.sent + 4
@@ -191,3 +192,12 @@ few_unsent c h =
 pub few_in : (c : FilterConfig) (h : List Call) (d : Direction) → length (course d (account c h)).asks ≤ (course d (account c h)).sent + 4
 few_in c h Request = (marked c h).few.request
 few_in c h Response = (marked c h).few.response
+
+pub asks_turn : (c : FilterConfig) (h : List Call) (d : Direction) → asks_in d (account c h).made ≡ map (ask_of d) (course d (account c h)).asks
+asks_turn c h d = asks_are d (account c h) (marked c h).counts
+
+pub sent_turn : (c : FilterConfig) (h : List Call) (d : Direction) → length (asks_in d (take (account c h).sent (account c h).made)) ≡ (course d (account c h)).sent
+sent_turn c h d = sent_are d (account c h) (marked c h).counts
+
+pub sent_bound : (c : FilterConfig) (h : List Call) → (account c h).sent ≤ length (account c h).made
+sent_bound c h = (marked c h).counts.bound

@@ -17,3 +17,4 @@ pub mod ToldMore
 pub mod Right
 pub mod Held
 pub mod Sides
+pub mod InTurn

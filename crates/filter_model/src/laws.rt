@@ -7,7 +7,7 @@ ghost use Rattle.ext_msgs.specs.declared.answer.Span.{Span};
 ghost use Rattle.ext_msgs.specs.declared.modes.PartModes.{PartModes};
 ghost use Rattle.filter_model.specs.Account.{ExchangeAccount, Left, Live, course, flow, from, front, gathered, given_count, is_finished, is_given, is_in, is_out_in, is_released, is_to_head, settled, to, unsent, is_given_at};
 ghost use Rattle.filter_model.specs.AllGiven.{is_all_handed, is_nothing};
-ghost use Rattle.filter_model.specs.Answers.{answered, extended_by, override_of};
+ghost use Rattle.filter_model.specs.Answers.{ask_of, answered, extended_by, override_of};
 ghost use Rattle.filter_model.specs.Config.{CourseConfig, FilterConfig};
 ghost use Rattle.filter_model.specs.Course.{Course, Changed, asked, body_of, body_room, changed, committed, due, is_headers, is_over, out, queue};
 ghost use Rattle.filter_model.specs.Cut.{AnswerKind, Cut, PartAnswer, fault_cut, is_whole_and_done, part_cut, peer_cut, processor_cut};
@@ -16,6 +16,7 @@ ghost use Rattle.filter_model.specs.Grown.{Grown};
 ghost use Rattle.filter_model.specs.Half.{HalfCall, Answer, Release, Settle, Sent as OneSent, Given as SoManyGiven, Past, Taken, MayGive, NothingDue, becomes, called, course as past_course, parts, progress, refusal, settled_modes};
 ghost use Rattle.filter_model.specs.HalfRight.{IsPast, written_parts, framing_in, has_trailers, part_bytes};
 ghost use Rattle.filter_model.specs.Outgoing.{IsWire};
+ghost use Rattle.filter_model.specs.InTurn.{asks_in};
 ghost use Rattle.filter_model.specs.Right.{Call, Stepped, Took, Headline, IsHistory, account, ask_given, is_done};
 ghost use Rattle.filter_model.specs.Sides.{IsReadOf, read_cut};
 ghost use Rattle.filter_model.specs.Sound.{Sound};
@@ -435,4 +436,14 @@ pub fn side_cuts()
         → IsReadOf s e → is_live (account c h).fate ≡ true → cut c e (gathered e (account c h))
         ≡ read_cut (is_finished c (account c h)) (is_over c.course (course (from s) (gathered e (account c h))))
         (from s) (fault_cut (gathered e (account c h)) (from s)) }
+{}
+
+/// The asks of a direction, among those of both in the order in which they were made, are those of its course, and so
+/// many of them were sent as its course says.
+pub fn asked_in_turn()
+    ensures made { (c : FilterConfig) (h : List Call) (d : Direction) →
+        asks_in d (account c h).made ≡ map (ask_of d) (course d (account c h)).asks }
+    ensures sent { (c : FilterConfig) (h : List Call) (d : Direction) →
+        length (asks_in d (take (account c h).sent (account c h).made)) ≡ (course d (account c h)).sent }
+    ensures bound { (c : FilterConfig) (h : List Call) → (account c h).sent ≤ length (account c h).made }
 {}
