@@ -2,18 +2,19 @@
 use Rattle.std.proofs.Common.{refl, sym, ◌∙◌, ap, subst, arith, append-nil, append_assoc, length-append}
 use Rattle.std.proofs.lemmas.Bool.{eq-eqb, eqb-true}
 use Rattle.std.proofs.lemmas.List.{drop_at, length-drop}
-use Rattle.std.specs.Prelude.{ℕ, ◌≡◌, ◌==◌, ◌+◌, ◌-◌, min, Bool, true, false, not, ◌&&◌, List, [], ◌∷◌, ◌++◌, length, drop, Option, Some, None}
+use Rattle.std.specs.Prelude.{ℕ, ◌≡◌, ◌≤◌, ◌==◌, ◌+◌, ◌-◌, min, Bool, true, false, not, ◌&&◌, List, [], ◌∷◌, ◌++◌, length, drop, Option, Some, None}
 use Rattle.http_model.specs.Bytes.{is_empty}
 use Rattle.http_model.specs.Wire.{interim}
 use Rattle.http_model.specs.declared.types.Direction.{Direction}
 use Rattle.http_model.specs.declared.types.Framing.{Framing}
+use Rattle.http_model.specs.declared.types.Framing.TheVariants.{Chunked, Length, NoField}
 use Rattle.http_model.specs.declared.types.Out.{Out}
 use Rattle.http_model.specs.declared.types.Out.TheVariants as part
 use Rattle.filter_model.specs.HalfRight.{framing_in, has_trailers, part_bytes, written_parts}
-use Rattle.filter_model.specs.Given.{data_at}
+use Rattle.filter_model.specs.Given.{data_at, data_in}
 use Rattle.h1_outlet.specs.Parts.{framing_with, trailers_with, unwritten, has_bytes}
 use Rattle.h1_outlet.specs.Outlets.{Flowed, all, body_in, left_of, body_of, holding, is_idle, readied, with_interim, with_part}
-use Rattle.h1_outlet.specs.Stands.{StandsFor, MayOwe, MayPut, IsPlaced, fresh}
+use Rattle.h1_outlet.specs.Stands.{StandsFor, AreNone, MayOwe, MayPut, IsPlaced, fresh}
 use Rattle.h1_outlet.specs.Ways.{Way, plain}
 use Rattle.h1_outlet.specs.declared.outlet.Outlet.{Outlet}
 use Rattle.h1_outlet.proofs.PartBytes.{WayFits, clash, head_data, no_bytes, no_data, some_bytes, zero_data}
@@ -289,10 +290,58 @@ owed_fresh d x s = record {
     plus : {a b : ℕ} → a ≡ 0 → b ≡ 0 → 0 ≡ 0 + (a + b)
     plus e f = omega (arith, e, f)
 
-pub owed_stands : (f : Flowed) (x : Outlet) → StandsFor f x → MayOwe f → StandsFor (with_interim f) (record x { interim = true })
-owed_stands f x s m = subst (λ g. StandsFor (with_interim g) (record x { interim = true })) (sym same) (owed_fresh f.direction x (subst (λ g. StandsFor g x) same s))
+-- parts that are none write nothing
+none_parts : (d : Direction) (parts : List Out) → AreNone parts → (framing_in parts ≡ None) × (has_trailers parts ≡ false) × (written_parts d parts ≡ []) × ((n : ℕ) → data_in d parts n ≡ 0)
+none_parts d [] m = (refl, refl, refl, λ n. refl)
+none_parts d (part.Nothing ∷ parts) m =
+    let k = none_parts d parts m in (
+      k.0,
+      k.1,
+      ap (λ l. l ++ part_bytes d (framing_in parts) (has_trailers parts) part.Nothing) k.2 ∙ nothing_bytes d (framing_in parts) (has_trailers parts),
+      λ n. sum (data_in d parts n) (data_at (framing_in parts) (n - length (written_parts d parts)) part.Nothing) (k.3 n) (nothing_data (framing_in parts) (n - length (written_parts d parts))),
+    )
   where
-    same : f ≡ fresh f.direction
+    nothing_bytes : (d : Direction) (o : Option Framing) (t : Bool) → part_bytes d o t part.Nothing ≡ []
+    nothing_bytes d None t = refl
+    nothing_bytes d (Some x) t = refl
+
+    nothing_data : (o : Option Framing) (n : ℕ) → data_at o n part.Nothing ≡ 0
+    nothing_data None n = refl
+    nothing_data (Some Chunked) n = refl
+    nothing_data (Some NoField) n = refl
+    nothing_data (Some (Length k)) n = refl
+
+    sum : (a b : ℕ) → a ≡ 0 → b ≡ 0 → a + b ≡ 0
+    sum a b e f = omega (arith, e, f)
+none_parts d (part.Head fields own ∷ parts) m = absurd m
+none_parts d (part.Data bytes ∷ parts) m = absurd m
+none_parts d (part.Trailers fields ∷ parts) m = absurd m
+none_parts d (part.End ∷ parts) m = absurd m
+
+-- with other parts that are written alike
+other_parts : (f : Flowed) (parts : List Out) (x : Outlet) → framing_in parts ≡ framing_in f.parts → has_trailers parts ≡ has_trailers f.parts → written_parts f.direction parts ≡ written_parts f.direction f.parts
+    → ((n : ℕ) → data_in f.direction parts n ≡ data_in f.direction f.parts n) → StandsFor f x → StandsFor (record f { parts = parts }) x
+other_parts f parts x a b d e s =
+    let same : all (record f { parts = parts }) ≡ all f = ap (λ l. f.front ++ l ++ f.reply) d in
+    record {
+      direction = s.direction;
+      framing = s.framing ∙ sym a;
+      trailers = s.trailers ∙ sym b;
+      within = subst (λ l. f.given ≤ length l) (sym same) s.within;
+      left = s.left ∙ ap (drop f.given) (sym same);
+      reply = s.reply;
+      fits = s.fits;
+      body = λ n. e (f.given + n - length f.front) ∙ s.body n ∙ ap (λ k. k + body_of x n) (sym (e (f.given - length f.front)));
+    }
+
+pub owed_stands : (f : Flowed) (x : Outlet) → StandsFor f x → MayOwe f → StandsFor (with_interim f) (record x { interim = true })
+owed_stands f x s m =
+    let k = none_parts f.direction f.parts m.parts in
+    other_parts (with_interim (record f { parts = [] })) f.parts (record x { interim = true }) k.0 k.1 k.2 k.3
+    (subst (λ g. StandsFor (with_interim g) (record x { interim = true })) (sym same)
+    (owed_fresh f.direction x (subst (λ g. StandsFor g x) same (other_parts f [] x (sym k.0) (sym k.1) (sym k.2) (λ n. sym (k.3 n)) s))))
+  where
+    same : record f { parts = [] } ≡ fresh f.direction
     same =
-        ap (λ l. record f { front = l }) m.front ∙ ap (λ l. record f { front = []; parts = l }) m.parts
+        ap (λ l. record f { front = l; parts = [] }) m.front
         ∙ ap (λ l. record f { front = []; parts = []; reply = l }) m.reply ∙ ap (λ n. record f { front = []; parts = []; reply = []; given = n }) m.given

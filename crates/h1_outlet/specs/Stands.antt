@@ -1,5 +1,5 @@
 -- What an outlet stands for, what may be put, and what is given.
-use Rattle.std.specs.Prelude.{ℕ, ◌+◌, ◌-◌, ◌≡◌, ◌≤◌, [], length, take, drop, Option, Some, None}
+use Rattle.std.specs.Prelude.{ℕ, ◌+◌, ◌-◌, ◌≡◌, ◌≤◌, List, [], ◌∷◌, length, take, drop, Option, Some, None}
 use Rattle.http_model.specs.declared.types.Direction.{Direction}
 use Rattle.http_model.specs.declared.types.Out.{Out}
 use Rattle.http_model.specs.declared.types.Out.TheVariants as part
@@ -21,10 +21,16 @@ pub record StandsFor (f : Flowed) (x : Outlet) : Type 0 where
 abbrev pub fresh : Direction → Flowed
 fresh d = record { direction = d; front = []; parts = []; reply = []; given = 0 }
 
+-- no part but that nothing may go yet
+abbrev pub AreNone : List Out → Type 0
+AreNone [] = Unit {0}
+AreNone (part.Nothing ∷ parts) = AreNone parts
+AreNone (out ∷ parts) = ⊥
+
 -- nothing was handed
 pub record MayOwe (f : Flowed) : Type 0 where
   pub front : f.front ≡ []
-  pub parts : f.parts ≡ []
+  pub parts : AreNone f.parts
   pub reply : f.reply ≡ []
   pub given : f.given ≡ 0
 
