@@ -83,9 +83,6 @@ within_whole n bytes Partial size rest e = absurd (by (nat_le n (length bytes)) 
     by true e = cc
     by false e = cc
 
-clash : true ≡ false → ⊥
-clash e = cc
-
 size_later : (bytes more : List ℕ) (size : ℕ) (rest : List ℕ) → chunk_line bytes ≡ Partial → chunk_line (bytes ++ more) ≡ Whole size rest → length rest ≤ length more
 unfolding chunk_line
 size_later bytes more size rest e f = by (at_limit n bytes more)

@@ -9,7 +9,7 @@ use Rattle.h1_read.specs.Remaining as remaining
 use Rattle.h1_read.specs.Remaining.{Rest, remaining, GivesContent, FedFault}
 use Rattle.h1_read.specs.declared.fault.H1Fault.{H1Fault}
 use Rattle.h1_read.proofs.BodyMoves.{none_left}
-use Rattle.h1_message.specs.Feeding.{GoesOn, Fails, Ends}
+use Rattle.h1_message.specs.Feeding.{BodyGoesOn, Fails, BodyEnds}
 use Rattle.h1_message.proofs.FaultLaw.{fault_stays}
 
 -- up to a byte all was read and gave this content
@@ -19,7 +19,7 @@ pub record Along (before : Rest) (bytes content : List ℕ) (at : ℕ) (now : Re
   pub on : (ended : Bool) (more : List ℕ) → remaining before ended (bytes ++ more) ≡ behind content (remaining now ended (drop at bytes ++ more))
 
 pub along_ends : (before now after : Rest) (bytes content rest : List ℕ) (at used : ℕ) → Along before bytes content at now → rest ≡ drop at bytes
-    → used ≡ length rest → GivesContent now rest used [] after → remaining now false rest ≡ part [] → GoesOn before bytes content after
+    → used ≡ length rest → GivesContent now rest used [] after → remaining now false rest ≡ part [] → BodyGoesOn before bytes content after
 along_ends before now after bytes content rest at used w b u g e =
     let left : drop used rest ≡ [] = ap (λ n. drop n rest) u ∙ none_left rest in
     record {
@@ -30,7 +30,7 @@ along_ends before now after bytes content rest at used w b u g e =
     }
 
 pub along_whole : (before now : Rest) (bytes content rest : List ℕ) (at used : ℕ) (trailers : List Field) → Along before bytes content at now → rest ≡ drop at bytes
-    → remaining.Ends now rest used trailers → Ends before bytes content trailers
+    → remaining.Ends now rest used trailers → BodyEnds before bytes content trailers
 along_whole before now bytes content rest at used trailers w b e = record {
   left = drop used rest;
   whole = λ ended more.

@@ -20,9 +20,9 @@ use Rattle.h1_read.specs.Remaining.{Rest, at_start, remaining}
 use Rattle.h1_read.specs.Remaining as rest
 use Rattle.h1_read.proofs.BodyMoves.{behind_both}
 use Rattle.h1_read.proofs.StateLaw.{heads_go_on, left_goes_on}
-use Rattle.h1_message.specs.Feeding.{IsNext, IsHeadFed}
+use Rattle.h1_message.specs.Feeding.{IsNext, HeadWasFed}
 use Rattle.h1_message.specs.Source.{Source, more, ended, original}
-use Rattle.h1_message.specs.Stages.{IsUnbegun, IsNewHead, InHead, InBody, HasNoBody, HasAll, IsAt, reading_of, begun_at, Stands, stage_behind, trailers_of, nothing, told, IsGiven}
+use Rattle.h1_message.specs.Stages.{IsUnbegun, IsNewHead, InHead, InBody, HasNoBody, HasAll, IsAtStage, reading_of, begun_at, Stands, stage_behind, trailers_of, nothing, told, IsGiven}
 use Rattle.h1_message.specs.declared.body.Next.{Next}
 use Rattle.h1_message.specs.declared.body.Next.TheVariants.{On, Bad, Whole}
 use Rattle.h1_message.specs.declared.head.HeadFed.{HeadFed}
@@ -137,7 +137,7 @@ came_next n before bytes came content r (Whole trailers) ended on i =
     (ap (λ (x : Body). x.content) now, ap (λ (x : Body). x.trailers) now)
 
 at_next : (s : Source) (m : Reading Head) (h : Head) (before bytes came content : List ℕ) (r : Rest) (next : Next) → IsOn h.length before came r
-    → IsNext r bytes content next → m ≡ reading.Whole h (before ++ bytes) → IsAt s m (stage_behind h.length next)
+    → IsNext r bytes content next → m ≡ reading.Whole h (before ++ bytes) → IsAtStage s m (stage_behind h.length next)
 at_next s m h before bytes came content r (On after) on i e = record {
   head = h;
   behind = before ++ bytes;
@@ -200,10 +200,10 @@ no_bytes s d to_head bytes e w =
     )
 
 abbrev pub TellsStage : Source → HeadState → Option Stage → Type 0
-TellsStage s h None = IsAt s (reading_of s) (stage.Head h)
-TellsStage s h (Some x) = IsAt s (reading_of s) x × (begun_at x ≡ true)
+TellsStage s h None = IsAtStage s (reading_of s) (stage.Head h)
+TellsStage s h (Some x) = IsAtStage s (reading_of s) x × (begun_at x ≡ true)
 
-pub head_tells : (s : Source) (h h' : HeadState) (bytes : List ℕ) (f : HeadFed) → InHead s h → IsHeadFed h bytes h' f
+pub head_tells : (s : Source) (h h' : HeadState) (bytes : List ℕ) (f : HeadFed) → InHead s h → HeadWasFed h bytes h' f
     → TellsStage (more bytes s) h' (told f).0 × IsGiven (original s) (original (more bytes s)) (told f).1
 head_tells s h h' bytes fed.On i f =
     let on = head_on s h h' bytes i f in (on, partial_gives s (more bytes s) i.reads on.reads)
@@ -250,7 +250,7 @@ body_steps s bytes content n r next w i =
     let now = came_next b.head.length b.behind bytes b.came content r next s.ended on i in
     let was = body_was s (reading_of s) n r s.ended b in (
       record {
-        is = subst (λ k. IsAt (more bytes s) (reading_of (more bytes s)) (stage_behind k next)) b.framed
+        is = subst (λ k. IsAtStage (more bytes s) (reading_of (more bytes s)) (stage_behind k next)) b.framed
             (at_next (more bytes s) (reading_of (more bytes s)) b.head b.behind bytes b.came content r next on i whole);
         begun = begun_next n next ∙ sym (still_begun s.brought bytes (sym w.begun));
       },
@@ -337,7 +337,7 @@ whole_steps s bytes w =
 
 -- The answers of a head's bytes as the code has them
 
-pub told_some : (s : Source) (h h' : HeadState) (bytes : List ℕ) (f : HeadFed) (r : Option Stage × Given) (x : Stage) → InHead s h → IsHeadFed h bytes h' f
+pub told_some : (s : Source) (h h' : HeadState) (bytes : List ℕ) (f : HeadFed) (r : Option Stage × Given) (x : Stage) → InHead s h → HeadWasFed h bytes h' f
     → r ≡ told f → r.0 ≡ Some x → not (is_empty (s.brought ++ bytes)) ≡ true → Steps s bytes x r.1
 told_some s h h' bytes f r x i k e o begun =
     let t = head_tells s h h' bytes f i k in
@@ -346,7 +346,7 @@ told_some s h h' bytes f r x i k e o begun =
       subst (IsGiven (original s) (original (more bytes s))) (sym (ap (λ (p : Option Stage × Given). p.1) e)) t.1,
     )
 
-pub told_none : (s : Source) (h h' : HeadState) (bytes : List ℕ) (f : HeadFed) (r : Option Stage × Given) → InHead s h → IsHeadFed h bytes h' f
+pub told_none : (s : Source) (h h' : HeadState) (bytes : List ℕ) (f : HeadFed) (r : Option Stage × Given) → InHead s h → HeadWasFed h bytes h' f
     → r ≡ told f → r.0 ≡ None → not (is_empty (s.brought ++ bytes)) ≡ true → Steps s bytes (stage.Head h') r.1
 told_none s h h' bytes f r i k e o begun =
     let t = head_tells s h h' bytes f i k in (
@@ -357,7 +357,7 @@ told_none s h h' bytes f r i k e o begun =
       subst (IsGiven (original s) (original (more bytes s))) (sym (ap (λ (p : Option Stage × Given). p.1) e)) t.1,
     )
 
-pub told_short : (h h' : HeadState) (bytes : List ℕ) (f : HeadFed) → IsHeadFed h bytes h' f → length (told f).1.body ≤ length bytes
+pub told_short : (h h' : HeadState) (bytes : List ℕ) (f : HeadFed) → HeadWasFed h bytes h' f → length (told f).1.body ≤ length bytes
 told_short h h' bytes fed.On k = omega arith
 told_short h h' bytes (fed.Bad e) k = omega arith
 told_short h h' bytes (fed.Got m b) k = omega (arith, k.inside, k.body.short)

@@ -21,7 +21,7 @@ abbrev pub IsNamed : H1Fault → H1Fault → Type 0
 IsNamed e e' = (e' ≡ e) × (is_some (fault_of e) ≡ true)
 
 -- the body goes on
-pub record GoesOn (before : Rest) (bytes content : List ℕ) (after : Rest) : Type 0 where
+pub record BodyGoesOn (before : Rest) (bytes content : List ℕ) (after : Rest) : Type 0 where
   pub on : (ended : Bool) (more : List ℕ)
       → remaining before ended (bytes ++ more) ≡ behind content (remaining after ended more)
   pub unfinished : remaining after false [] ≡ part []
@@ -33,15 +33,15 @@ pub record Fails (before : Rest) (bytes content : List ℕ) (e : H1Fault) : Type
   pub stays : (ended : Bool) (more : List ℕ) → remaining before ended (bytes ++ more) ≡ faulty content fault
 
 -- it is whole, whatever follows
-pub record Ends (before : Rest) (bytes content : List ℕ) (trailers : List Field) : Type 0 where
+pub record BodyEnds (before : Rest) (bytes content : List ℕ) (trailers : List Field) : Type 0 where
   pub left : List ℕ
   pub whole : (ended : Bool) (more : List ℕ)
       → remaining before ended (bytes ++ more) ≡ whole_body content trailers (left ++ more)
 
 abbrev pub IsNext : Rest → List ℕ → List ℕ → Next → Type 0
-IsNext before bytes content (On after) = GoesOn before bytes content after
+IsNext before bytes content (On after) = BodyGoesOn before bytes content after
 IsNext before bytes content (Bad e) = Fails before bytes content e
-IsNext before bytes content (Whole trailers) = Ends before bytes content trailers
+IsNext before bytes content (Whole trailers) = BodyEnds before bytes content trailers
 
 pub record IsBodyFed (before : Rest) (bytes : List ℕ) (fed : BodyFed) : Type 0 where
   pub short : length fed.content ≤ length bytes
@@ -54,13 +54,13 @@ pub record IsBad (s : HeadState) (bytes : List ℕ) (e : H1Fault) : Type 0 where
   pub reads : message_head s.direction s.to_head (s.so_far ++ bytes) ≡ reading.Bad fault
 
 -- a head, and what the bytes behind it give of the body
-pub record IsGot (s : HeadState) (bytes : List ℕ) (m : Message) (fed : BodyFed) : Type 0 where
+pub record GotHead (s : HeadState) (bytes : List ℕ) (m : Message) (fed : BodyFed) : Type 0 where
   pub behind : List ℕ
   pub inside : length behind ≤ length bytes
   pub reads : message_head s.direction s.to_head (s.so_far ++ bytes) ≡ reading.Whole (head_of m) behind
   pub body : IsBodyFed (at_start m.length) behind fed
 
-abbrev pub IsHeadFed : HeadState → List ℕ → HeadState → HeadFed → Type 0
-IsHeadFed s bytes s' head.On = IsFedOn s bytes s'
-IsHeadFed s bytes s' (head.Bad e) = IsBad s bytes e
-IsHeadFed s bytes s' (head.Got m fed) = IsGot s bytes m fed
+abbrev pub HeadWasFed : HeadState → List ℕ → HeadState → HeadFed → Type 0
+HeadWasFed s bytes s' head.On = IsFedOn s bytes s'
+HeadWasFed s bytes s' (head.Bad e) = IsBad s bytes e
+HeadWasFed s bytes s' (head.Got m fed) = GotHead s bytes m fed

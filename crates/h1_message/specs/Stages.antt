@@ -89,13 +89,13 @@ pub record HasAll (r : Reading Head) : Type 0 where
       → body head.length ended (behind ++ more) ≡ whole_body came trailers (left ++ more)
 
 -- by what the bytes so far give of the head
-abbrev pub IsAt : Source → Reading Head → Stage → Type 0
-IsAt s r (stage.Unbegun d to_head) = IsUnbegun s d to_head
-IsAt s r (stage.Head h) = InHead s h
-IsAt s r (stage.NoHead e) = HasNoHead r e
-IsAt s r (stage.Body length rest) = InBody r length rest
-IsAt s r (stage.NoBody e) = HasNoBody r e
-IsAt s r stage.Whole = HasAll r
+abbrev pub IsAtStage : Source → Reading Head → Stage → Type 0
+IsAtStage s r (stage.Unbegun d to_head) = IsUnbegun s d to_head
+IsAtStage s r (stage.Head h) = InHead s h
+IsAtStage s r (stage.NoHead e) = HasNoHead r e
+IsAtStage s r (stage.Body length rest) = InBody r length rest
+IsAtStage s r (stage.NoBody e) = HasNoBody r e
+IsAtStage s r stage.Whole = HasAll r
 
 -- what all bytes so far give of the head
 abbrev pub reading_of : Source → Reading Head
@@ -111,7 +111,7 @@ begun_at (stage.NoBody e) = true
 begun_at stage.Whole = true
 
 pub record Stands (s : Source) (x : Stage) : Type 0 where
-  pub is : IsAt s (reading_of s) x
+  pub is : IsAtStage s (reading_of s) x
   pub begun : begun_at x ≡ not (is_empty s.brought)
 
 -- What a stage tells of the message

@@ -1,7 +1,7 @@
 //! The bytes of an unfinished head.
 
 ghost use Rattle.std.specs.Prelude.{◌≡◌, ◌<◌, ◌^◌, length, IfOk, OnErr};
-ghost use Rattle.h1_message.specs.Feeding.{IsHeadFed};
+ghost use Rattle.h1_message.specs.Feeding.{HeadWasFed};
 
 use crate::body::{BodyFed, behind, feed_body, named};
 use h1_read::{BodyReader, H1Fault, HeadReader, Message};
@@ -25,7 +25,7 @@ pub(crate) fn feed_head(
     bytes: &[u8],
 ) -> Result<HeadFed, AllocError>
     requires { length bytes.now < 2 ^ 32 }
-    ensures fed { IfOk result (IsHeadFed reader.old bytes.now reader.new) }
+    ensures fed { IfOk result (HeadWasFed reader.old bytes.now reader.new) }
     ensures unchanged { OnErr result (reader.new ≡ reader.old) }
 {
     match reader.feed(bytes) {
