@@ -429,8 +429,8 @@ pub fn cut_head()
     ensures to_head { (c : FilterConfig) (a : ExchangeAccount) → is_to_head (settled c a) ≡ is_to_head a }
 {}
 
-/// What cut the bytes or the end of a side are: none once both messages were given before, and else its body is past its
-/// limit, or it is faulty. For reading on gives nothing whole that is a cut, and leaves what was given whole.
+/// What cut the bytes or the end of a side are: none once both messages were given before; else that its body is past
+/// its limit, or that it is faulty. For reading on gives nothing whole that is a cut, and leaves what was given whole.
 pub fn side_cuts()
     ensures { (c : FilterConfig) (h : List Call) (s : Side) (e : ViewEntry) → IsHistory c (Stepped e ∷ h)
         → IsReadOf s e → is_live (account c h).fate ≡ true → cut c e (gathered e (account c h))
