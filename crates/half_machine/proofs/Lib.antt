@@ -30,3 +30,4 @@ pub mod AnsweredBody
 pub mod AnsweredHeaders
 pub mod AnsweredTrailers
 pub mod AnswerHolds
+pub mod FieldSums

@@ -12,3 +12,4 @@ pub mod Handing
 pub mod Giving
 pub mod Judging
 pub mod Answering
+pub mod Beside

@@ -8,6 +8,7 @@
 
 mod answering;
 mod asking;
+mod beside;
 mod calls;
 mod choosing;
 mod due;
@@ -22,4 +23,5 @@ mod own;
 mod ready;
 mod telling;
 
+pub use beside::ask_size;
 pub use half::Half;

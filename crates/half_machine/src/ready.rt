@@ -1,7 +1,9 @@
 //! Asks that were answered before they were handed out.
 
-ghost use Rattle.std.specs.Prelude.{◌≡◌, ◌++◌, ◌∷◌, [], MatchOption, OnOk, OnErr};
+ghost use Rattle.std.specs.Prelude.{◌≡◌, ◌++◌, ◌∷◌, [], MatchOption, OnOk, OnErr, min, sum_by};
+ghost use Rattle.half_machine.specs.Beside.{ask_size};
 
+use crate::beside::asks_size;
 use ext_msgs::Ask;
 use std::alloc::{AllocError, Global};
 use std::collections::VecDeque;
@@ -39,6 +41,14 @@ impl Ready {
     {
         self.asks.push_back(ask)?;
         Ok(())
+    }
+
+    /// How many bytes they have, or 2^64 - 1 where there are more.
+    pub fn size(&self) -> u64
+        ensures { result ≡ min (sum_by ask_size self.now) 18_446_744_073_709_551_615 }
+    {
+        let size = asks_size(&self.asks);
+        size
     }
 
     /// Takes the oldest.
