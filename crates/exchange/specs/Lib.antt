@@ -1,0 +1,12 @@
+pub mod Order
+pub mod Flows
+pub mod Settings
+pub mod Stands
+pub mod Moves
+pub mod Passing
+pub mod Heard
+pub mod Held
+pub mod Reading
+pub mod Giving
+pub mod Asking
+pub mod Answering
