@@ -1,0 +1,15 @@
+pub mod Given
+pub mod Fed
+pub mod Waits
+pub mod Reached
+pub mod PlayedTells
+pub mod PlayedRounds
+pub mod PlayedLines
+pub mod PlayedMeets
+pub mod Told
+pub mod PlayedAll
+pub mod PlayedOpens
+pub mod Events
+pub mod Stages
+pub mod WrittenLines
+pub mod StageConfig
