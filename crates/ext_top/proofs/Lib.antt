@@ -1,6 +1,7 @@
 pub mod Fronts
-pub mod Clients
 pub mod Moved
 pub mod Plays
+pub mod Firsts
 pub mod Endings
+pub mod Exchanges
 pub mod ShownFrames

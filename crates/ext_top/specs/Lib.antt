@@ -1,9 +1,9 @@
 pub mod Scan
 pub mod Commands
-pub mod Clients
-pub mod Replay
 pub mod Moves
 pub mod Plays
+pub mod Decided
+pub mod Exchanges
 pub mod ShownFrames
 pub mod Shows
 pub mod Runs

@@ -3,14 +3,15 @@
 ghost use Rattle.std.specs.Prelude.{◌≡◌, ◌≢◌, ◌≤◌};
 ghost use Rattle.px_edge.specs.Causes.{Rose};
 ghost use Rattle.ext_top.specs.Moves.{room};
+ghost use Rattle.trace_model.specs.Places.{Place};
+ghost use Rattle.trace_player.specs.Ties.{StageIs};
 ghost use Rattle.ext_top.specs.Plays.{EndsReplay, is_end};
 
-use crate::stage::{Met, Stage};
 use crate::status::Status;
-use crate::step::step;
 use crate::streams::{LINE_LIMIT, Stop, read_line, write_all};
 use px_edge::{Sink, Source};
 use std::alloc::Global;
+use trace_player::{Met, Stage, step};
 
 /// The greatest length of a trace in bytes.
 const TRACE_LIMIT: usize = 1 << 30;
@@ -25,9 +26,9 @@ fn room(before: usize) -> usize
 
 // Whether no line comes any more.
 fn at_end(stage: &Stage) -> bool
-    ensures { result ≡ is_end stage.now }
+    ensures { (p : Place) → StageIs p stage.now → result ≡ is_end p }
 {
-    matches!(stage, Stage::End)
+    matches!(stage, Stage::Ended)
 }
 
 /// Plays a trace from a source, and writes its transcript to a sink.

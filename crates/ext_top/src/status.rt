@@ -19,6 +19,6 @@ pub enum Status {
     WriteFault,
     /// Memory ran out.
     Memory,
-    /// The input needs a form that isn't built yet.
+    /// The trace is one of bytes, which isn't played yet.
     NotBuilt,
 }
