@@ -1,0 +1,4 @@
+pub mod Stages
+pub mod Ruled
+pub mod Counted
+pub mod Given
