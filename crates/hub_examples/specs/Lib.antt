@@ -1,0 +1,4 @@
+pub mod Hubs
+pub mod Interleaved
+pub mod NarrowWindow
+pub mod LinkLost

@@ -1,0 +1,9 @@
+pub mod Places
+pub mod Apart
+pub mod Backed
+pub mod Along
+pub mod Sound
+pub mod WholeFrom
+pub mod Quiet
+pub mod Long
+pub mod Whole

@@ -1,0 +1,9 @@
+pub mod HubCalls
+pub mod World
+pub mod Meeting
+pub mod Hearing
+pub mod Sending
+pub mod Happens
+pub mod Allowed
+pub mod HubRight
+pub mod Apart
