@@ -3,6 +3,7 @@
 #![tactic(auto)]
 
 mod calls;
+mod exchanges;
 mod floods;
 mod frames;
 mod h1;
@@ -10,6 +11,7 @@ mod half;
 mod hpack;
 mod messages;
 mod queues;
+mod replays;
 mod sessions;
 mod table;
 
@@ -24,6 +26,9 @@ heads         request heads of about 200 bytes and 8 KiB are read, in one feed a
 bodies        16 MiB in chunks of 16 KiB and then of 1 byte are read, in feeds of several lengths, a byte
 frames        DATA frames of 16 KiB are read, a byte
 calls         messages of 20 bytes and then of 64 KiB are read, in feeds of 1, 100 and 16,384 bytes, a byte
+exchange      a GET with one answer, a request; 1 MiB both ways asked piece by piece, 64 KiB both ways asked at once,
+              and 64 MiB both ways that pass, a byte
+replay        a trace of 10 MB and one of 100 MB are played, a byte
 half          64 MiB of a body pass, are kept, cleared, replaced, or asked 64 KiB at once, beside a copy, a byte
 huffman       1 MiB of text is spelled as a Huffman string and read back, a byte of text
 hpack         header blocks of twelve fields are written and read, a block
@@ -46,6 +51,8 @@ fn main(rt: HostRuntime) -> Result<()> {
         "bodies" => h1::measure_bodies(&rt),
         "frames" => frames::measure(&rt),
         "calls" => calls::measure(&rt),
+        "exchange" => exchanges::measure(&rt),
+        "replay" => replays::measure(&rt),
         "half" => half::measure(&rt),
         "huffman" => hpack::measure_huffman(&rt),
         "hpack" => hpack::measure_blocks(&rt),
