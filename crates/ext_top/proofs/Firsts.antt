@@ -13,7 +13,7 @@ use Rattle.std.specs.Io.KnownBytes.{Appends, Consumes, Keeps}
 use Rattle.ext_top.specs.Decided.{LinesStand}
 use Rattle.ext_top.specs.Moves.{room, IsShortLine, ReadsLine}
 use Rattle.ext_top.specs.Plays.{BeginsBytes, LinesLead, Played, joined}
-use Rattle.ext_top.proofs.Moved.{consumes_more}
+use Rattle.px_edge.proofs.Moved.{consumes_more}
 
 abbrev is_first : Shape → Bool
 is_first AtFirst = true

@@ -1,5 +1,4 @@
 pub mod Fronts
-pub mod Moved
 pub mod Plays
 pub mod Firsts
 pub mod Endings

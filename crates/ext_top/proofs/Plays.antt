@@ -8,7 +8,7 @@ use Rattle.trace_model.specs.Places.{First, Place}
 use Rattle.trace_model.specs.Verdicts.{TextLeads}
 use Rattle.ext_top.specs.Moves.{room, IsShortLine, ReadsLine, WritesSome}
 use Rattle.ext_top.specs.Plays.{LinesLead, joined, Played, Halted}
-use Rattle.ext_top.proofs.Moved.{consumes_more, appends_more}
+use Rattle.px_edge.proofs.Moved.{consumes_more, appends_more}
 
 -- the bytes behind the first line
 size_behind : (n : ℕ) (l : List ℕ) (lines : List (List ℕ)) → n + (length l + 1) + length (joined lines) ≡ n + length (joined (l ∷ lines))

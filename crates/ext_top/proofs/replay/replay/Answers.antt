@@ -1,5 +1,5 @@
 use Rattle.std.proofs.Common.{[], ◌∷◌, ◌++◌, arith}
-use Rattle.ext_top.proofs.Moved.{consumes_none}
+use Rattle.px_edge.proofs.Moved.{consumes_none}
 use Rattle.ext_top.proofs.Firsts.{begins}
 use Rattle.ext_top.proofs.Plays.{played_more, halted_read, halted_write}
 use Rattle.ext_top.proofs.replay.replay.Goals as goal

@@ -1,5 +1,5 @@
 use Rattle.std.proofs.Common.{[], ◌∷◌, ◌++◌}
-use Rattle.ext_top.proofs.Moved.{consumes_more}
+use Rattle.px_edge.proofs.Moved.{consumes_more}
 use Rattle.ext_top.proofs.streams.read_line.Goals as goal
 
 pub returns-then-is_err-clause-some : goal.returns-then-is_err-clause-some
