@@ -1,11 +1,10 @@
 -- Messages of bytes that come in parts.
-use Rattle.std.proofs.Common.{arith, ◌≡◌, ◌≢◌, ℕ, zero, suc, ◌+◌, ◌-◌, ◌<◌, ◌≤◌, List, [], ◌∷◌, ◌++◌, length, take, drop, refl, sym, ◌∙◌, ap, subst, Option, Some, None, ◌⊎◌, inl, inr, length-append, length-drop, append-nil, append_assoc}
+use Rattle.std.proofs.Common.{arith, ◌≡◌, ◌≢◌, ℕ, zero, suc, ◌+◌, ◌<◌, ◌≤◌, List, [], ◌∷◌, ◌++◌, length, take, drop, refl, sym, ◌∙◌, ap, subst, Some, None, length-append, length-drop}
 use Rattle.std.proofs.lemmas.List.{drop-append-le, take-append-le, length-take-le, drop_all}
-use Rattle.std.specs.Prelude.{slice_index}
 use Rattle.h2_frames.specs.Numbers.{u32_at}
 use Rattle.grpc_call.specs.declared.fault.CallFault.{CallFault}
-use Rattle.grpc_call.specs.Framed.{Beginning, Unfinished, Refused, Whole, first, prefix_fault, Framed, before_rest, framed_by, framed_within, framed}
-use Rattle.grpc_call.proofs.First.{Reach, within_prefix, refused, within_message, to_the_end, reach, first_short, refused_is, waits_is, whole_is, IsWhole, whole_says}
+use Rattle.grpc_call.specs.Framed.{Beginning, Unfinished, Refused, Whole, first, Framed, before_rest, framed_by, framed_within, framed}
+use Rattle.grpc_call.proofs.First.{Reach, within_prefix, refused, within_message, to_the_end, reach, first_short, refused_is, waits_is, whole_is, whole_says}
 use Rattle.grpc_call.proofs.Messages.{size_stays, fault_stays}
 
 -- what is told of bytes stays told

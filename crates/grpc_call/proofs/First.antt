@@ -1,11 +1,11 @@
 -- What bytes begin with, case by case.
-use Rattle.std.proofs.Common.{arith, ◌≡◌, ℕ, ◌+◌, ◌<◌, ◌≤◌, Bool, true, false, List, [], ◌++◌, length, take, drop, get_or, refl, sym, ◌∙◌, ap, Option, Some, None, subst, ◌⊎◌, inl, inr, length-append}
+use Rattle.std.proofs.Common.{arith, ◌≡◌, ℕ, ◌+◌, ◌<◌, ◌≤◌, List, [], ◌++◌, length, take, drop, refl, sym, ◌∙◌, ap, Option, Some, None, ◌⊎◌, inl, inr, length-append}
 use Rattle.std.proofs.lemmas.Bool.{cases_lt}
 use Rattle.std.proofs.lemmas.Bool.Decides.{nat_tests}
 use Rattle.std.specs.Prelude.{slice_index}
 use Rattle.h2_frames.specs.Numbers.{u32_at}
 use Rattle.grpc_call.specs.declared.fault.CallFault.{CallFault}
-use Rattle.grpc_call.specs.Framed.{Beginning, Unfinished, Refused, Whole, first, first_unless, prefix_fault}
+use Rattle.grpc_call.specs.Framed.{Unfinished, Refused, Whole, first, first_unless, prefix_fault}
 use Rattle.grpc_call.specs.Keeping.{IsParted, IsKept}
 use Rattle.grpc_call.proofs.Prefixes.{front, size_front, none_short}
 

@@ -1,5 +1,5 @@
 -- What a reader tells of its stream's events.
-use Rattle.std.proofs.Common.{arith, ◌≡◌, ◌≢◌, ℕ, ◌+◌, ◌-◌, ◌<◌, ◌≤◌, ◌==◌, ◌&&◌, not, Bool, true, false, List, [], ◌∷◌, ◌++◌, length, take, drop, refl, sym, ◌∙◌, ap, subst, if◌then◌else◌, Option, Some, None, Result, Ok, Err, ◌⊎◌, inl, inr, length-append, append-nil, append_assoc, map}
+use Rattle.std.proofs.Common.{arith, ◌≡◌, ◌≢◌, ℕ, ◌+◌, ◌-◌, ◌≤◌, ◌==◌, ◌&&◌, not, Bool, true, false, List, [], ◌∷◌, ◌++◌, length, take, drop, refl, sym, ◌∙◌, ap, subst, if◌then◌else◌, Option, Some, None, Result, Ok, Err, inl, inr, length-append, append-nil, append_assoc, map}
 use Rattle.std.proofs.Math.Bool.{and-true, and-false}
 use Rattle.std.proofs.lemmas.List.{map-append, length-take-le, take-append-drop}
 use Rattle.std.specs.Prelude.{codes}
@@ -14,11 +14,11 @@ use Rattle.grpc_call.specs.declared.heads.Block.{Block}
 use Rattle.grpc_call.specs.declared.heads.Block.TheVariants.{Skips, Begins, Ends, Refuses}
 use Rattle.grpc_call.specs.Framed.{Beginning, Unfinished, Refused, Whole, first, Framed, framed, framed_by}
 use Rattle.grpc_call.specs.Blocks.{block_of, ended_with, first_value, is_call_type, is_right_status, is_some_byte, status_of}
-use Rattle.grpc_call.specs.Reading.{Response, begun, block_in, headed_by, told_by, ended_behind, Taken, Keeps, Gives, Fails, taken, taken_by, ReadsData}
-use Rattle.grpc_call.specs.Items.{Item, Message, LongMessage, Closed, Ending, Status, Failed, Heard, with_block, with_data, with_event, unless_over, heard, closing, last_items, items_of, items, StandsFor, told_of, IsOver, HeadTold, DataTold}
+use Rattle.grpc_call.specs.Reading.{Response, begun, block_in, headed_by, told_by, ended_behind, Keeps, Gives, Fails, taken, taken_by, ReadsData}
+use Rattle.grpc_call.specs.Items.{Item, Message, Closed, Ending, Status, Failed, Heard, with_block, with_data, with_event, unless_over, heard, closing, last_items, items_of, items, StandsFor, told_of, IsOver, HeadTold, DataTold}
 use Rattle.grpc_call.proofs.First.{first_short, IsWhole, whole_says}
 use Rattle.grpc_call.proofs.Messages.{not_before}
-use Rattle.grpc_call.proofs.Cuts.{first_stays, message_size, framed_is, after, Added, added, one_message}
+use Rattle.grpc_call.proofs.Cuts.{first_stays, message_size, framed_is, after, added, one_message}
 
 pub begins : (limit : ℕ) → StandsFor (begun limit) []
 begins limit =

@@ -1,10 +1,8 @@
 -- A message that is written is read back.
-use Rattle.std.proofs.Common.{arith, ◌≡◌, ℕ, ◌+◌, ◌<◌, ◌≤◌, ◌^◌, nat_lt, false, List, ◌∷◌, ◌++◌, length, take, drop, refl, sym, ◌∙◌, ap, Some, None, length-append, append_assoc}
+use Rattle.std.proofs.Common.{arith, ◌≡◌, ℕ, ◌+◌, ◌<◌, ◌≤◌, ◌^◌, List, ◌++◌, length, take, ◌∙◌, ap, None, length-append}
 use Rattle.std.proofs.lemmas.List.{take-append-le, take_all}
 use Rattle.std.proofs.lemmas.Bool.Decides.{nat_tests}
 use Rattle.std.proofs.lemmas.Nat.{from_be_bytes-to_be_bytes_4}
-use Rattle.std.specs.Int.{w32, to_be_bytes}
-use Rattle.std.specs.Prelude.{slice_index}
 use Rattle.h2_frames.specs.Numbers.{u32_at}
 use Rattle.grpc_call.specs.Framed.{Whole, first, prefix_fault}
 use Rattle.grpc_call.specs.Written.{framed_message}

@@ -1,12 +1,10 @@
 -- What the field blocks of a response say of its call: the gRPC over HTTP/2 protocol, Responses.
-use Rattle.std.specs.Prelude.{ℕ, ◌^◌, ◌==◌, Bool, true, false, not, ◌&&◌, ◌||◌, List, [], ◌∷◌, Option, Some, None, if◌then◌else◌, nat_lt, nat_eq, codes, bytes_eq}
+use Rattle.std.specs.Prelude.{ℕ, ◌^◌, Bool, true, false, not, ◌&&◌, ◌||◌, List, [], ◌∷◌, Option, Some, None, if◌then◌else◌, nat_lt, nat_eq, codes, bytes_eq}
 use Rattle.std.specs.List.{list_all, starts_with}
-use Rattle.std.specs.Option.{is_none}
 use Rattle.std.specs.Char.{is_ascii_digit}
 use Rattle.std.specs.Str.Parse.{digits_value}
 use Rattle.ext_msgs.specs.declared.lists.Field.{Field}
 use Rattle.h2_model.specs.StreamFaults.{is_interim}
-use Rattle.grpc_call.specs.declared.fault.CallFault.{CallFault}
 use Rattle.grpc_call.specs.declared.fault.CallFault.TheVariants.{Head, Cut, NoStatus}
 use Rattle.grpc_call.specs.declared.heads.Block.{Block}
 use Rattle.grpc_call.specs.declared.heads.Block.TheVariants.{Skips, Begins, Ends, Refuses}

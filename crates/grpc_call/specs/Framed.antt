@@ -1,5 +1,5 @@
 -- Messages, one behind the other, each after a flag and its length: the gRPC over HTTP/2 protocol, Length-Prefixed-Message.
-use Rattle.std.specs.Prelude.{ℕ, zero, suc, ◌+◌, ◌≡◌, ◌==◌, not, List, [], ◌∷◌, length, take, drop, slice_index, Option, Some, None, if◌then◌else◌, nat_lt}
+use Rattle.std.specs.Prelude.{ℕ, zero, suc, ◌+◌, ◌==◌, not, List, [], ◌∷◌, length, take, drop, slice_index, Option, Some, None, if◌then◌else◌, nat_lt}
 use Rattle.h2_frames.specs.Numbers.{u32_at}
 use Rattle.grpc_call.specs.declared.fault.CallFault.{CallFault}
 use Rattle.grpc_call.specs.declared.fault.CallFault.TheVariants.{Compressed, TooLong}

@@ -1,7 +1,6 @@
 -- What the stream of a call brings, by the whole list of its events.
 use Rattle.std.specs.Prelude.{ℕ, ◌≡◌, ◌==◌, Bool, true, false, ◌&&◌, not, List, [], ◌∷◌, ◌++◌, take, ◌⊎◌, Option, Some, None, Result, Ok, Err, if◌then◌else◌}
 use Rattle.std.specs.Prelude.{map}
-use Rattle.ext_msgs.specs.declared.lists.Field.{Field}
 use Rattle.h2_model.specs.declared.answers.Event.{Event}
 use Rattle.h2_model.specs.declared.answers.Event.TheVariants as event
 use Rattle.grpc_call.specs.declared.fault.CallFault.{CallFault}

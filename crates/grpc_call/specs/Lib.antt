@@ -4,3 +4,4 @@ pub mod Reading
 pub mod Keeping
 pub mod Written
 pub mod Items
+pub mod Served

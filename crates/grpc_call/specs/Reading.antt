@@ -1,5 +1,5 @@
 -- What a reader answers, by what it keeps of a response.
-use Rattle.std.specs.Prelude.{ℕ, ◌+◌, ◌-◌, ◌≤◌, ◌≡◌, Bool, true, false, not, List, [], ◌∷◌, ◌++◌, length, take, drop, Option, Some, None, Result, Ok, Err, if◌then◌else◌}
+use Rattle.std.specs.Prelude.{ℕ, ◌+◌, ◌-◌, ◌≤◌, ◌≡◌, Bool, true, false, List, [], ◌++◌, length, Option, Some, None, Result, Ok, Err, if◌then◌else◌}
 use Rattle.ext_msgs.specs.declared.lists.Field.{Field}
 use Rattle.grpc_call.specs.declared.fault.CallFault.{CallFault}
 use Rattle.grpc_call.specs.declared.fault.CallFault.TheVariants.{Head, Cut, NoStatus, Memory}

@@ -17,6 +17,7 @@ mod heads;
 mod laws;
 mod prefix;
 mod reader;
+mod serving;
 mod status;
 mod writing;
 
@@ -26,5 +27,6 @@ pub use laws::{
     written_message_is_read,
 };
 pub use reader::CallReader;
+pub use serving::{refusal_of, response_head, status_trailers};
 pub use status::status_of;
 pub use writing::{call_head, frame_of};

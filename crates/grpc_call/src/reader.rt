@@ -1,8 +1,9 @@
 //! Reading a response, which comes in field blocks and in DATA that is cut anyhow.
 
-ghost use Rattle.std.specs.Prelude.{◌≡◌, ◌+◌, ◌≤◌, ◌<◌, ◌^◌, ◌++◌, length, vec_len, vec_capacity};
+ghost use Rattle.std.specs.Prelude.{◌≡◌, ◌+◌, ◌≤◌, ◌<◌, ◌^◌, ◌++◌, length, vec_len, vec_capacity, IfOk, IfSome};
 ghost use Rattle.grpc_call.specs.Blocks.{is_some_byte};
 ghost use Rattle.grpc_call.specs.Reading.{begun, block_in, ended_behind, headed_by, told_by, ReadsData};
+ghost use Rattle.grpc_call.specs.Served.{begun_request};
 ghost use Rattle.grpc_call.specs.Keeping.{Finishes, IsAdded, IsParted, StartsAs};
 
 use crate::fault::CallFault;
@@ -126,6 +127,18 @@ impl CallReader {
         }
     }
 
+    /// A reader of a request, whose head is judged elsewhere, of messages of at most `limit` bytes. It takes no memory.
+    pub fn request(alloc: Global, limit: u32) -> CallReader
+        ensures { result ≡ begun_request limit }
+    {
+        CallReader {
+            limit,
+            headed: true,
+            prefix: Vec::new(alloc),
+            message: Vec::new(alloc),
+        }
+    }
+
     // Whether a message is unfinished.
     fn is_within(&self) -> bool
         ensures { result ≡ is_some_byte self.now.rest }
@@ -165,7 +178,8 @@ impl CallReader {
     /// messages are told it is a fault. A fault leaves the reader as it was.
     pub fn data(&mut self, bytes: &[u8], ends: bool) -> Result<Option<(Blob, u32)>, CallFault>
         requires { length bytes.now < 2 ^ 32 }
-        ensures { ReadsData self.old bytes.now ends result self.new }
+        ensures told { ReadsData self.old bytes.now ends result self.new }
+        ensures some { IfOk result (λ o. IfSome o (λ p. 0 < p.1)) }
     {
         if !self.headed {
             return Err(CallFault::Head);

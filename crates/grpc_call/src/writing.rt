@@ -8,9 +8,14 @@ use pb_wire::Blob;
 use std::alloc::{AllocError, Global};
 
 /// Where the processor's service takes its calls.
-const PATH: &[u8] = b"/envoy.service.ext_proc.v3.ExternalProcessor/Process";
+pub(crate) const PATH: &[u8] = b"/envoy.service.ext_proc.v3.ExternalProcessor/Process";
 
-fn push(alloc: Global, fields: &mut FieldList, name: &[u8], value: &[u8]) -> Result<(), AllocError>
+pub(crate) fn push(
+    alloc: Global,
+    fields: &mut FieldList,
+    name: &[u8],
+    value: &[u8],
+) -> Result<(), AllocError>
     ensures { OnOk result (fields.new ≡ fields.old ++ (record { name = name.now; value = value.now } ∷ [])) }
 {
     let name = Blob::of(alloc, name)?;

@@ -1,4 +1,4 @@
-use Rattle.std.proofs.Common.{arith, rules, ◌≡◌, ◌∙◌, ◌-◌, ◌==◌, sym, ap, true, List, ℕ, [], ◌++◌, drop, length, vec_len}
+use Rattle.std.proofs.Common.{arith, ◌≡◌, ◌∙◌, ◌-◌, ◌==◌, sym, ap, List, ℕ, [], ◌++◌, drop, length, vec_len}
 use Rattle.grpc_call.proofs.Prefixes.{content_is}
 use Rattle.grpc_call.proofs.Messages.{none_there}
 use Rattle.grpc_call.proofs.reader.finish.Goals as goal

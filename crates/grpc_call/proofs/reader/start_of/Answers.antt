@@ -1,4 +1,4 @@
-use Rattle.std.proofs.Common.{arith, rules, ◌≡◌, ◌∙◌, ◌+◌, ◌≤◌, ◌<◌, ◌++◌, sym, ap, refl, length, length-append, Option, Some, None}
+use Rattle.std.proofs.Common.{arith, ◌∙◌, ◌+◌, ◌≤◌, ◌++◌, refl, length, length-append, Some, None}
 use Rattle.grpc_call.proofs.First.{parted_short, parted_long, unless_short, unless_whole}
 use Rattle.grpc_call.proofs.reader.start_of.Goals as goal
 

@@ -1,7 +1,6 @@
-use Rattle.std.proofs.Common.{rules, ◌≡◌, sym, subst, Result, ℕ, List, true, None}
+use Rattle.std.proofs.Common.{◌≡◌, sym, subst, ℕ, List, true, None}
 use Rattle.std.specs.Char.{is_ascii_digit}
 use Rattle.std.specs.List.{list_all}
-use Rattle.std.specs.Str.Parse.{ParsesUnsigned}
 use Rattle.grpc_call.proofs.Numbers.{digits_are_text, unparsed}
 use Rattle.grpc_call.specs.Blocks.{number_in}
 use Rattle.grpc_call.proofs.status.number_in.Goals as goal

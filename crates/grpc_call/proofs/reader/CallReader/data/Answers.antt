@@ -1,10 +1,11 @@
-use Rattle.std.proofs.Common.{arith, rules, ◌≡◌, ◌∙◌, ◌-◌, ◌+◌, ◌≤◌, ◌<◌, ◌^◌, sym, ap, refl, subst, Bool, true, if◌then◌else◌, List, ℕ, [], ◌++◌, length, length-append, drop, take, vec_len}
+use Rattle.std.proofs.Common.{arith, rules, ◌≡◌, ◌∙◌, ◌-◌, ◌+◌, ◌≤◌, ◌<◌, sym, ap, refl, subst, Bool, true, if◌then◌else◌, List, ℕ, [], ◌++◌, length, drop, take}
 use Rattle.grpc_call.specs.Framed.{Beginning, first, Whole}
 use Rattle.grpc_call.specs.Reading.{Response, Gives, Fails, taken, taken_by}
 use Rattle.grpc_call.specs.declared.fault.CallFault.TheVariants.{Head}
 use Rattle.grpc_call.specs.Keeping.{IsKept}
 use Rattle.grpc_call.proofs.First.{nothing_kept}
-use Rattle.grpc_call.proofs.Messages.{message_short, Ended, ended}
+use Rattle.grpc_call.proofs.Cuts.{message_size}
+use Rattle.grpc_call.proofs.Messages.{message_short, not_before, Ended, ended}
 use Rattle.grpc_call.proofs.reader.CallReader.data.Goals as goal
 
 pub start_of-requires-clause-kept : goal.start_of-requires-clause-kept
@@ -36,6 +37,14 @@ gives limit used headed ends prefix message bytes last whole size e h f is =
     ∙ ap (λ (x : Beginning). taken_by x r bytes ends) (e.whole ∙ ap Whole (sym same))
     ∙ ap (λ n. Gives whole n) (ap (λ (b : List ℕ). 5 + length b - length (prefix ++ message)) same ∙ sym e.used_is)
 
+some_used : (limit size used : ℕ) (prefix message bytes : List ℕ) → IsKept limit prefix message → Ended limit size used prefix message bytes → 0 < used
+some_used limit size used prefix message bytes kept e =
+    let whole : List ℕ = drop 5 (prefix ++ message ++ take used bytes) in
+    let before = not_before limit (prefix ++ message) bytes whole kept.waits e.whole in
+    let long = message_size limit (prefix ++ message ++ bytes) whole e.whole in
+    let count = e.used_is in
+    omega arith
+
 pub returns-in_ok-message-in-Whole : goal.returns-in_ok-message-in-Whole
 returns-in_ok-message-in-Whole c =
     let used : 5 + c.in-Whole.size - c.len.result - c.len-in-Whole.result ≡ 5 + c.in-Whole.size - length c.self.inside.prefix.items - length c.self.inside.message.items =
@@ -47,4 +56,7 @@ returns-in_ok-message-in-Whole c =
     let empty : c.finish.new.prefix.items ++ c.finish.new.message.items ≡ [] = rw (c.in_ok-message-in-Whole.ensures.1, c.in_ok-message-in-Whole.ensures.2) refl in
     let limit = ap (λ (r : Response). r.limit) c.self.view_is in
     let headed = ap (λ (r : Response). r.headed) c.self.view_is in
-    (subst (λ (r : Response). taken r c.args.bytes.now c.args.ends ≡ Gives c.in_ok-message-in-Whole.message (5 + c.in-Whole.size - c.len.result - c.len-in-Whole.result)) c.self.view_is got, e.enough, λ i. record { limit = limit i; headed = headed i; rest = empty i })
+    record {
+      told = (subst (λ (r : Response). taken r c.args.bytes.now c.args.ends ≡ Gives c.in_ok-message-in-Whole.message (5 + c.in-Whole.size - c.len.result - c.len-in-Whole.result)) c.self.view_is got, e.enough, λ i. record { limit = limit i; headed = headed i; rest = empty i });
+      some = some_used _ _ _ _ _ _ c.self.invariant e;
+    }

@@ -1,4 +1,4 @@
-use Rattle.std.proofs.Common.{arith, rules, ap, length-append, subst, ◌<◌, ◌+◌, ℕ}
+use Rattle.std.proofs.Common.{arith, ap, length-append}
 use Rattle.grpc_call.specs.Reading.{Response}
 use Rattle.grpc_call.proofs.First.{unfinished_short}
 use Rattle.grpc_call.proofs.reader.CallReader.held.Goals as goal

@@ -1,4 +1,4 @@
-use Rattle.std.proofs.Common.{arith, rules, ◌≡◌, ◌∙◌, ◌==◌, sym, ap, not, vec_len, length}
+use Rattle.std.proofs.Common.{arith, ◌≡◌, ◌∙◌, ◌==◌, sym, ap, not, vec_len, length}
 use Rattle.grpc_call.specs.Blocks.{is_some_byte}
 use Rattle.grpc_call.specs.Reading.{Response}
 use Rattle.grpc_call.proofs.Messages.{is_within, tells_some}

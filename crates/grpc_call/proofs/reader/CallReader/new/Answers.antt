@@ -1,6 +1,3 @@
-use Rattle.std.proofs.Common.{arith, rules, ap, subst, sym, ◌≡◌, ◌∙◌, [], ◌++◌, length, List, ℕ}
-use Rattle.grpc_call.specs.Framed.{first, Unfinished}
-use Rattle.grpc_call.specs.Keeping.{IsKept, IsParted}
 use Rattle.grpc_call.proofs.First.{nothing_kept}
 use Rattle.grpc_call.proofs.reader.CallReader.new.Goals as goal
 
