@@ -1,16 +1,18 @@
 -- What every move of a hub keeps holds in every history.
 use Rattle.std.proofs.Common.{sym, ◌∙◌, ap, subst, arith, inl, inr, ◌⊎◌}
-use Rattle.std.specs.Prelude.{ℕ, suc, zero, ◌+◌, ◌-◌, ◌≡◌, ◌≤◌, ◌<◌, ◌&&◌, Bool, true, false, not, List, [], ◌∷◌, length, take, drop, min, map, replicate, Option, Some, None, refl, if◌then◌else◌, nat_le, nat_lt, is_none, filter, cond, slice_index_or}
-use Rattle.std.proofs.lemmas.List.{length-take}
+use Rattle.std.specs.Prelude.{ℕ, suc, zero, ◌+◌, ◌-◌, ◌≡◌, ◌≤◌, ◌<◌, ◌&&◌, ◌||◌, ◌==◌, Bool, true, false, not, List, [], ◌∷◌, length, take, min, map, replicate, Option, Some, None, refl, if◌then◌else◌, nat_le, nat_lt, is_none, filter, cond, slice_index_or}
+use Rattle.std.proofs.lemmas.List.{get_or-set_same, length-set, length-take}
+use Rattle.std.specs.List.{list_any}
 use Rattle.ext_msgs.specs.declared.ask.Ask.{Ask}
 use Rattle.h2_model.specs.declared.answers.Event.{Event}
 use Rattle.h2_model.specs.Account.{Account}
 use Rattle.h2_model.specs.Calls.{is_open_here}
-use Rattle.h2_model.specs.History.{Finish, Reset, Take, called, with_byte}
+use Rattle.h2_model.specs.History.{Finish, Reset, Take, called, is_violated, with_byte}
 use Rattle.h2_model.specs.Queue.{flow}
 use Rattle.h2_model.specs.Streams.{is_live}
-use Rattle.http_model.specs.Bytes.{IsPrefix, is_empty}
+use Rattle.http_model.specs.Bytes.{is_empty}
 use Rattle.filter_model.specs.Config.{FilterConfig}
+use Rattle.filter_model.specs.Account.{ExchangeAccount}
 use Rattle.filter_model.specs.View.{ViewEntry, Bytes, End, Lost, Answered, TooLong, Closed, NoStream, Tick, Starved, Sent, Given}
 use Rattle.filter_model.specs.Step.{after, step, room}
 use Rattle.filter_model.specs.declared.calls.Side.{Side}
@@ -22,25 +24,37 @@ use Rattle.grpc_call.specs.Items.{Item}
 use Rattle.grpc_call.specs.Items as item
 use Rattle.hub_model.specs.HubCalls.{HubCall, HubConfig, Handing, HandsHead, HandsData, Opened, NotOpened, Fed, Ended, PortLost, Ticked, Took, Gave, Failed, port_of, side_of}
 use Rattle.hub_model.specs.World.{EndedStream, World, Line, no_line, line, put, account_of, is_live_at, is_over, start}
-use Rattle.hub_model.specs.Meeting.{at_each, can_begin, cancel, each, end_due, ending, ending_on, entered, kept, meet, meet_all, meet_if, opening, opening_if, placed, reset_first, wants_stream, with_end, with_stream, within_limit}
-use Rattle.hub_model.specs.Hearing.{broke, came, came_all, close_all, close_at, close_if, entry_of, grown, hear, hear_if, is_fatal, is_live_on, is_on, reset_of, tell, tell_all, tell_at, told, with_heard}
+use Rattle.hub_model.specs.Meeting.{at_each, can_begin, cancel, end_due, ending, ending_on, entered, kept, meet, meet_all, meet_if, opening, opening_if, placed, reset_first, wants_stream, with_end, with_stream}
+use Rattle.hub_model.specs.Hearing.{broke, came, came_all, close_at, close_if, entry_of, grown, hear, hear_if, is_fatal, is_live_on, is_on, reset_of, tell, tell_all, tell_at, told, with_heard}
 use Rattle.hub_model.specs.Sending.{after_giving, data_sent, framed_ask, gave, handed_over, newly_sent, session_call, tell_sent, whole_asks}
-use Rattle.hub_model.specs.Happens.{close, counted, happens, happens_at, opened, ticked, took, world, world_rules}
-use Rattle.hub_model.specs.Allowed.{IsHubHistory, MayAt, MayCall, MaySend, MayHand, MayHandAll, MayHandIf, MayTakeAt, MayTakeIf, room_at}
+use Rattle.hub_model.specs.Happens.{close, counted, happens, happens_at, opened, took, world}
+use Rattle.hub_model.specs.Allowed.{IsHubHistory, MayAt, MaySend, MayHand, MayHandAll, MayHandIf, MayTakeAt, MayTakeIf, room_at}
 use Rattle.hub_model.proofs.Backed.{Enters, is_longer}
-use Rattle.hub_model.proofs.Places.{set_at, with_end-lines}
+use Rattle.hub_model.proofs.Places.{live_there, or_false, same_true, set_at, with_end-lines}
+use Rattle.hub_model.proofs.Handed.{finish-violated, hands-violated}
+
+-- the end that is due after an entry, on a stream that lives, while the connection does
+pub record IsDue (c : HubConfig) (k id : ℕ) (e : ViewEntry) (finish : Bool) (w : World) : Type 0 where
+  pub own : (line k w).stream ≡ Some id
+  pub due : end_due e (account_of c (line k w)) ≡ Some finish
+  pub earlier : List ViewEntry
+  pub view : (line k w).view ≡ e ∷ earlier
+  pub here : is_open_here id w.session ≡ true
+  pub goes_on : is_over w ≡ false
 
 -- one lemma for each move
 pub record Keeps (c : HubConfig) (P : World → Type 0) : Type 0 where
   pub begins : P start
   pub enters : (k : ℕ) (e : ViewEntry) (w : World) → Enters c.filter (line k w).view e → P w → P (entered k e w)
   pub streams : (k : ℕ) (w : World) → wants_stream c (line k w) ≡ true → can_begin c w ≡ true → P w → P (opening k w true)
-  pub finishes : (id : ℕ) (ended : List EndedStream) (w : World) → is_open_here id w.session ≡ true → P w
-      → P (record w { session = called (Finish id) w.session; ended = ended })
-  pub resets : (id : ℕ) (w : World) → is_live id w.session.log ≡ true → P w → P (record w { session = called (Reset id cancel) w.session })
+  pub finishes : (k id : ℕ) (e : ViewEntry) (w : World) → IsDue c k id e true w → P w
+      → P (record w { session = called (Finish id) w.session; ended = placed (record { call = w.calls; stream = id }) w.ended })
+  pub resets : (k id : ℕ) (e : ViewEntry) (w : World) → IsDue c k id e false w → P w → P (record w { session = called (Reset id cancel) w.session })
+  pub trims : (id : ℕ) (w : World) → list_any (λ (x : EndedStream). x.stream == id) w.ended ≡ true → is_live id w.session.log ≡ true → is_over w ≡ false → P w
+      → P (record w { session = called (Reset id cancel) w.session })
   pub hears : (e : Event) (k : ℕ) (w : World) → P w → P (put k (with_heard e (line k w)) w)
   pub byte : (b : ℕ) (w : World) → P w → P (record w { session = told (with_byte b w.session) })
-  pub hands : (x : Handing) (w : World) → MayHand c w x w.session → P w → P (record w { session = called (session_call c x) w.session })
+  pub hands : (x : Handing) (w : World) → MayHand c w x w.session → is_over w ≡ false → P w → P (record w { session = called (session_call c x) w.session })
   pub gives : (n : ℕ) (w : World) → n ≤ length (flow w.session.waiting) → P w → P (record w { session = called (Take n) w.session })
   pub breaks : (w : World) → P w → P (record w { broken = true })
   pub counts : (w : World) → P w → P (counted w)
@@ -148,6 +162,66 @@ and_true : (a b : Bool) → (a && b) ≡ true → (a ≡ true) × (b ≡ true)
 and_true true b h = (refl, h)
 and_true false b h = absurd cc
 
+not_true : (b : Bool) → not b ≡ true → b ≡ false
+not_true true h = absurd cc
+not_true false h = refl
+
+or_true : (a b : Bool) → b ≡ true → (a || b) ≡ true
+or_true true b h = refl
+or_true false b h = h
+
+here_true : (a b : Bool) → a ≡ true → (a || b) ≡ true
+here_true true b h = refl
+here_true false b h = absurd cc
+
+or_other : (a : Bool) → a ≡ false → (a || false) ≡ false
+or_other true h = absurd cc
+or_other false h = refl
+
+-- what stands at a place newest
+pub record Newest (e : ViewEntry) (v : List ViewEntry) : Type 0 where
+  pub earlier : List ViewEntry
+  pub view : v ≡ e ∷ earlier
+
+some_none : (s : Option ℕ) (id : ℕ) → is_none s ≡ true → s ≡ Some id → ⊥
+some_none None id n e = absurd cc
+some_none (Some x) id n e = absurd cc
+
+wants_none : (c : HubConfig) (l : Line) → wants_stream c l ≡ true → is_none l.stream ≡ true
+wants_none c l h =
+    let a : ExchangeAccount = account_of c l in
+    (and_true (is_none l.stream) (not a.unopened) (and_true (is_none l.stream && not a.unopened) (not (is_empty a.made)) h).0).0
+
+-- where the exchange has a stream the entry stands newest
+met-newest : (c : HubConfig) (k id : ℕ) (e : ViewEntry) (w : World) → k < length w.lines → (line k (with_stream c k (entered k e w))).stream ≡ Some id
+    → Newest e (line k (with_stream c k (entered k e w))).view
+unfolding with_stream
+met-newest c k id e w h own = opened_by (wants_stream c (line k v)) refl own
+  where
+    v : World
+    v = entered k e w
+
+    long : k < length v.lines
+    long = subst (λ n. k < n) (sym (length-set w.lines k _)) h
+
+    there : (line k v).view ≡ e ∷ (line k w).view
+    there = ap (λ (l : Line). l.view) (get_or-set_same w.lines k _ no_line h)
+
+    begun : (b : Bool) → is_none (line k v).stream ≡ true → (line k (opening k v b)).stream ≡ Some id → Newest e (line k (opening k v b)).view
+    begun true n o = record { earlier = (line k w).view; view = ap (λ (l : Line). l.view) (get_or-set_same v.lines k _ no_line long) ∙ there }
+    begun false n o =
+        absurd (some_none (line k v).stream id n (sym (ap (λ (l : Line). l.stream) (get_or-set_same v.lines k _ no_line long)) ∙ o))
+
+    opened_by : (b : Bool) → wants_stream c (line k v) ≡ b → (line k (opening_if c k v b)).stream ≡ Some id → Newest e (line k (opening_if c k v b)).view
+    opened_by true wanted o = begun (can_begin c v) (wants_none c (line k v) wanted) o
+    opened_by false wanted o = record { earlier = (line k w).view; view = there }
+
+-- ending a stream here is no connection error
+still_on : (id : ℕ) (w : World) → is_over w ≡ false → is_over (record w { session = called (Finish id) w.session }) ≡ false
+still_on id w o =
+    let both = or_false w.broken (is_violated w.session) o in
+    ap (λ b. w.broken || b) (finish-violated id w.session both.1) ∙ or_other w.broken both.0
+
 -- bytes that were taken fit into the room
 room_fits : (c : HubConfig) (w : World) (side : Side) (k : ℕ) (bytes : List ℕ) (n : ℕ) → n ≡ min (length bytes) (room_at c side k w)
     → is_live_at k w ≡ true → Enters c.filter (line k w).view (Bytes side (take n bytes))
@@ -160,35 +234,44 @@ room_fits c w side k bytes n e o =
 module _ (c : HubConfig) (P : World → Type 0) (m : Keeps c P) where
   -- The end of a stream
 
-  first_kept : (w : World) (xs : List EndedStream) → P w → P (reset_first w (filter (λ (x : EndedStream). is_live x.stream w.session.log) xs))
-  first_kept w [] p = p
-  first_kept w (x ∷ xs) p = by (is_live x.stream w.session.log) refl (first_kept w xs p)
+  first_kept : (w : World) (xs : List EndedStream) → ((id : ℕ) → list_any (λ (x : EndedStream). x.stream == id) xs ≡ true → list_any (λ (x : EndedStream). x.stream == id) w.ended ≡ true)
+      → is_over w ≡ false → P w → P (reset_first w (filter (λ (x : EndedStream). is_live x.stream w.session.log) xs))
+  first_kept w [] all o p = p
+  first_kept w (x ∷ xs) all o p =
+      by (is_live x.stream w.session.log) refl (first_kept w xs (λ id h. all id (or_true (x.stream == id) (list_any (λ (y : EndedStream). y.stream == id) xs) h)) o p)
     where
       rest : List EndedStream
       rest = filter (λ (x : EndedStream). is_live x.stream w.session.log) xs
 
+      is_there : list_any (λ (y : EndedStream). y.stream == x.stream) w.ended ≡ true
+      is_there = all x.stream (here_true (x.stream == x.stream) _ (same_true x.stream))
+
       by : (b : Bool) → is_live x.stream w.session.log ≡ b → P (reset_first w rest) → P (reset_first w (cond b (x ∷ rest) rest))
-      by true l q = m.resets x.stream w l p
+      by true l q = m.trims x.stream w is_there l o p
       by false l q = q
 
-  within_if : (w : World) (b : Bool) → P w → P (if b then reset_first w (kept w) else w)
-  within_if w true p = first_kept w w.ended p
-  within_if w false p = p
+  within_if : (w : World) (b : Bool) → is_over w ≡ false → P w → P (if b then reset_first w (kept w) else w)
+  within_if w true o p = first_kept w w.ended (λ id h. h) o p
+  within_if w false o p = p
 
-  ending-keeps : (id : ℕ) (w : World) (finish : Bool) → is_open_here id w.session ≡ true → P w → P (ending c id w finish)
-  ending-keeps id w true l p =
+  ending-keeps : (k id : ℕ) (e : ViewEntry) (w : World) (finish : Bool) → IsDue c k id e finish w → P w → P (ending c id w finish)
+  ending-keeps k id e w true d p =
       let v : World = record w { session = called (Finish id) w.session; ended = placed (record { call = w.calls; stream = id }) w.ended } in
-      within_if v (nat_lt c.max_ended (length (kept v))) (m.finishes id (placed (record { call = w.calls; stream = id }) w.ended) w l p)
-  ending-keeps id w false l p = m.resets id w (and_true (is_live id w.session.log) _ l).0 p
+      within_if v (nat_lt c.max_ended (length (kept v))) (still_on id w d.goes_on) (m.finishes k id e w d p)
+  ending-keeps k id e w false d p = m.resets k id e w d p
 
-  ending_if : (id : ℕ) (w : World) (finish b : Bool) → (is_open_here id w.session && not (is_over w)) ≡ b → P w → P (if b then ending c id w finish else w)
-  ending_if id w finish true l p = ending-keeps id w finish (and_true (is_open_here id w.session) (not (is_over w)) l).0 p
-  ending_if id w finish false l p = p
+  ending_if : (k id : ℕ) (e : ViewEntry) (w : World) (finish b : Bool) → (is_open_here id w.session && not (is_over w)) ≡ b → (line k w).stream ≡ Some id
+      → end_due e (account_of c (line k w)) ≡ Some finish → Newest e (line k w).view → P w → P (if b then ending c id w finish else w)
+  ending_if k id e w finish true l s d f p =
+      let both = and_true (is_open_here id w.session) (not (is_over w)) l in
+      ending-keeps k id e w finish (record { own = s; due = d; earlier = f.earlier; view = f.view; here = both.0; goes_on = not_true (is_over w) both.1 }) p
+  ending_if k id e w finish false l s d f p = p
 
-  ending_on-keeps : (s : Option ℕ) (o : Option Bool) (w : World) → P w → P (ending_on c s o w)
-  ending_on-keeps (Some id) (Some finish) w p = ending_if id w finish (is_open_here id w.session && not (is_over w)) refl p
-  ending_on-keeps (Some id) None w p = p
-  ending_on-keeps None o w p = p
+  ending_on-keeps : (k : ℕ) (e : ViewEntry) (s : Option ℕ) (o : Option Bool) (w : World) → (line k w).stream ≡ s → end_due e (account_of c (line k w)) ≡ o
+      → ((id : ℕ) → (line k w).stream ≡ Some id → Newest e (line k w).view) → P w → P (ending_on c s o w)
+  ending_on-keeps k e (Some id) (Some finish) w s d f p = ending_if k id e w finish (is_open_here id w.session && not (is_over w)) refl s d (f id s) p
+  ending_on-keeps k e (Some id) None w s d f p = p
+  ending_on-keeps k e None o w s d f p = p
 
   -- An entry
 
@@ -206,7 +289,8 @@ module _ (c : HubConfig) (P : World → Type 0) (m : Keeps c P) where
   meet_if-keeps k e w true l g p =
       let v : World = entered k e w in
       let u : World = with_stream c k v in
-      ending_on-keeps (line k u).stream (end_due e (account_of c (line k u))) u (opening_if-keeps k v (wants_stream c (line k v)) refl (m.enters k e w (g l) p))
+      ending_on-keeps k e (line k u).stream (end_due e (account_of c (line k u))) u refl refl (λ id o. met-newest c k id e w (live_there k w l) o)
+      (opening_if-keeps k v (wants_stream c (line k v)) refl (m.enters k e w (g l) p))
   meet_if-keeps k e w false l g p = p
 
   meet-keeps : (k : ℕ) (e : ViewEntry) (w : World) → (is_live_at k w ≡ true → Enters c.filter (line k w).view e) → P w → P (meet c k e w)
@@ -272,26 +356,32 @@ module _ (c : HubConfig) (P : World → Type 0) (m : Keeps c P) where
       sents-keep (n - a.sent) k w id e (rest_few n a.sent (length a.made) (whole_asks-few a.made (data_sent id w.session))) p
 
   hand_on : (x : Handing) (w : World) (a b : Account) → MayHand c w x a → MayHand c (record w { session = b }) x a
-  hand_on (HandsHead id block) w a b h = h
+  hand_on (HandsHead id block) w a b h = record { place = h.place; own = h.own; next = h.next; written = h.written }
   hand_on (HandsData id bytes) w a b h = record { place = h.place; own = h.own; here = h.here; some = h.some; fits = h.fits; first = h.first }
 
-  handed-keeps : (xs : List Handing) (w : World) (a : Account) → MayHandAll c w xs a → P (record w { session = a }) → P (record w { session = handed_over c xs a })
-  handed-keeps [] w a h p = p
-  handed-keeps (x ∷ xs) w a h p = handed-keeps xs w (called (session_call c x) a) h.1 (m.hands x (record w { session = a }) (hand_on x w a a h.0) p)
+  handed-keeps : (xs : List Handing) (w : World) (a : Account) → MayHandAll c w xs a → is_over (record w { session = a }) ≡ false → P (record w { session = a })
+      → P (record w { session = handed_over c xs a })
+  handed-keeps [] w a h o p = p
+  handed-keeps (x ∷ xs) w a h o p =
+      handed-keeps xs w (called (session_call c x) a) h.1 (over_stays x w a o) (m.hands x (record w { session = a }) (hand_on x w a a h.0) o p)
+    where
+      over_stays : (x : Handing) (w : World) (a : Account) → is_over (record w { session = a }) ≡ false → is_over (record w { session = called (session_call c x) a }) ≡ false
+      over_stays x w a o =
+          ap (λ b. w.broken || b) (hands-violated c x a (or_false w.broken (is_violated a) o).1) ∙ or_other w.broken (or_false w.broken (is_violated a) o).0
 
-  handed_if-keeps : (xs : List Handing) (w : World) (b : Bool) → MayHandIf c w xs b → P w → P (record w { session = handed_over c xs w.session })
-  handed_if-keeps xs w true h p = subst (λ ys. P (record w { session = handed_over c ys w.session })) (sym h) p
-  handed_if-keeps xs w false h p = handed-keeps xs w w.session h p
+  handed_if-keeps : (xs : List Handing) (w : World) (b : Bool) → is_over w ≡ b → MayHandIf c w xs b → P w → P (record w { session = handed_over c xs w.session })
+  handed_if-keeps xs w true o h p = subst (λ ys. P (record w { session = handed_over c ys w.session })) (sym h) p
+  handed_if-keeps xs w false o h p = handed-keeps xs w w.session h o p
 
   gave-keeps : (xs : List Handing) (t : Taken) (w : World) → MayHandIf c w xs (is_over w) → MaySend c w t (handed_over c xs w.session) → P w → P (gave c xs t w)
   unfolding gave
   gave-keeps xs (Piece bytes) w h g p =
       let u : World = record w { session = handed_over c xs w.session } in
       at_each-keeps (length w.lines) (tell_sent c) (λ k v. sent_on k v (line k v).stream refl) (after_giving c xs (length bytes) w)
-      (m.gives (length bytes) u (is_longer g.2) (handed_if-keeps xs w (is_over w) h p))
-  gave-keeps xs Nothing w h g p = handed_if-keeps xs w (is_over w) h p
+      (m.gives (length bytes) u (is_longer g.2) (handed_if-keeps xs w (is_over w) refl h p))
+  gave-keeps xs Nothing w h g p = handed_if-keeps xs w (is_over w) refl h p
   gave-keeps xs Done w h g p = absurd g
-  gave-keeps xs Abort w h g p = handed_if-keeps xs w (is_over w) h p
+  gave-keeps xs Abort w h g p = handed_if-keeps xs w (is_over w) refl h p
   gave-keeps xs Gone w h g p = absurd g
 
   -- All calls

@@ -1,6 +1,6 @@
 -- Bytes of the processor that bring nothing on a stream leave its exchange as it was.
-use Rattle.std.proofs.Common.{sym, ◌∙◌, ap, subst, inl, inr, ◌⊎◌, ◌≢◌}
-use Rattle.std.specs.Prelude.{ℕ, suc, zero, ◌≡◌, ◌||◌, Bool, true, false, List, [], ◌∷◌, length, map, Option, Some, None, refl}
+use Rattle.std.proofs.Common.{◌∙◌, ap, subst, inl, inr, ◌≢◌}
+use Rattle.std.specs.Prelude.{ℕ, suc, zero, ◌≡◌, ◌||◌, Bool, true, false, List, [], ◌∷◌, length, map, refl}
 use Rattle.std.specs.List.{list_any}
 use Rattle.std.proofs.lemmas.Bool.{cases_eq}
 use Rattle.h2_model.specs.declared.answers.Event.{Event}
@@ -9,10 +9,10 @@ use Rattle.h2_model.specs.Log.{stream_of_event}
 use Rattle.h2_model.specs.History.{with_byte}
 use Rattle.hub_model.specs.HubCalls.{HubConfig}
 use Rattle.hub_model.specs.World.{World, Line, line, put}
-use Rattle.hub_model.specs.Meeting.{at_each, each}
+use Rattle.hub_model.specs.Meeting.{at_each}
 use Rattle.hub_model.specs.Hearing.{entry_of, grown, hear, hear_if, is_on, tell, tell_all, tell_at, with_heard, close_if, came, came_all, is_fatal, told}
 use Rattle.hub_model.specs.Apart.{brings}
-use Rattle.hub_model.proofs.Places.{meet_all-other, put-other}
+use Rattle.hub_model.proofs.Places.{meet_all-other, or_false, put-other}
 
 hear-other : (c : HubConfig) (e : Event) (k j : ℕ) (w : World) → j ≢ k → line j (hear c e k w) ≡ line j w
 unfolding hear
@@ -40,10 +40,6 @@ tell_each-apart (suc n) c e j w h =
     let v : World = at_each n (tell_at c e) w in
     let s : line j v ≡ line j w = tell_each-apart n c e j w h in
     tell_at-apart c e n j v (ap (λ (l : Line). is_on (stream_of_event e) l.stream) s ∙ h) ∙ s
-
-or_false : (a b : Bool) → (a || b) ≡ false → (a ≡ false) × (b ≡ false)
-or_false true b h = absurd cc
-or_false false b h = (refl, h)
 
 tell_all-apart : (c : HubConfig) (es : List Event) (j : ℕ) (w : World) → list_any (λ e. is_on (stream_of_event e) (line j w).stream) es ≡ false
     → line j (tell_all c es w) ≡ line j w

@@ -1,13 +1,12 @@
 -- A view that some history of an exchange by itself has.
 use Rattle.std.proofs.Common.{sym, ◌∙◌, ap, subst, arith, length-append}
-use Rattle.std.specs.Prelude.{ℕ, suc, zero, ◌+◌, ◌-◌, ◌≡◌, ◌≤◌, ◌<◌, List, [], ◌∷◌, ◌++◌, length, Option, Some, None, refl, map, filter_map, slice_get, slice_index_or, true}
+use Rattle.std.specs.Prelude.{ℕ, suc, zero, ◌+◌, ◌-◌, ◌≡◌, ◌≤◌, ◌<◌, List, [], ◌∷◌, length, Some, refl, map, filter_map, slice_index_or}
 use Rattle.std.proofs.lemmas.Option.{slice_get-get_or}
 use Rattle.std.proofs.lemmas.List.{length-map}
 use Rattle.ext_msgs.specs.Spelling.{ask}
 use Rattle.http_model.specs.Bytes.{IsPrefix}
 use Rattle.filter_model.specs.Config.{FilterConfig}
 use Rattle.filter_model.specs.View.{ViewEntry, Bytes, End, Lost, Answered, TooLong, Closed, NoStream, Tick, Starved, Sent, Given}
-use Rattle.filter_model.specs.Account.{start}
 use Rattle.filter_model.specs.Step.{after, room}
 use Rattle.filter_model.specs.Right.{Call, Stepped, Took, Nexted, IsHistory, May, MayTake, account, view_of, ask_given, ask_due, end_due, due}
 use Rattle.filter_model.specs.declared.calls.Next.TheVariants as next

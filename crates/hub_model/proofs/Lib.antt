@@ -1,9 +1,11 @@
 pub mod Places
 pub mod Apart
 pub mod Backed
+pub mod Handed
 pub mod Along
 pub mod Sound
 pub mod WholeFrom
 pub mod Quiet
 pub mod Long
 pub mod Whole
+pub mod Streams

@@ -1,16 +1,15 @@
 -- No call drops an exchange.
-use Rattle.std.proofs.Common.{sym, ◌∙◌, ap, subst, arith, length-append}
-use Rattle.std.specs.Prelude.{ℕ, suc, zero, ◌+◌, ◌≡◌, ◌≤◌, Bool, true, false, not, List, [], ◌∷◌, ◌++◌, length, take, map, replicate, Option, Some, None, refl}
+use Rattle.std.proofs.Common.{◌∙◌, arith, length-append}
+use Rattle.std.specs.Prelude.{ℕ, suc, zero, ◌+◌, ◌≡◌, ◌≤◌, Bool, true, false, not, List, [], ◌∷◌, length, take, map, replicate, Option, Some, None, refl}
 use Rattle.std.proofs.lemmas.List.{length-set}
 use Rattle.h2_model.specs.declared.answers.Event.{Event}
 use Rattle.h2_model.specs.History.{with_byte}
 use Rattle.filter_model.specs.View.{Bytes, End, Lost, Tick, Starved, Given, Sent}
 use Rattle.filter_model.specs.declared.calls.Side.{Side}
-use Rattle.filter_model.specs.declared.calls.Side.TheVariants.{Client, Upstream}
 use Rattle.filter_model.specs.declared.calls.Taken.{Taken}
 use Rattle.filter_model.specs.declared.calls.Taken.TheVariants.{Piece, Nothing, Done, Abort, Gone}
 use Rattle.hub_model.specs.HubCalls.{Handing, HubCall, HubConfig, Opened, NotOpened, Fed, Ended, PortLost, Ticked, Took, Gave, Failed, port_of, side_of}
-use Rattle.hub_model.specs.World.{World, Line, line, put, is_over}
+use Rattle.hub_model.specs.World.{World, line, put, is_over}
 use Rattle.hub_model.specs.Meeting.{at_each, meet}
 use Rattle.hub_model.specs.Hearing.{broke, came, came_all, close_at, close_if, entry_of, grown, hear, hear_if, is_fatal, is_live_on, is_on, reset_of, tell, tell_all, tell_at, told, with_heard}
 use Rattle.hub_model.specs.Sending.{after_giving, gave, newly_sent, tell_sent}

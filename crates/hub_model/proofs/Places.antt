@@ -1,14 +1,14 @@
 -- Where an entry of one exchange is written, and where not.
-use Rattle.std.proofs.Common.{sym, ◌∙◌, ap, subst, inl, inr, ◌⊎◌, ◌≢◌}
-use Rattle.std.specs.Prelude.{ℕ, suc, zero, ◌≡◌, ◌<◌, ◌&&◌, not, Bool, true, false, List, [], ◌∷◌, ◌++◌, length, Option, Some, None, refl, slice_index_or, slice_set, if◌then◌else◌, nat_lt}
+use Rattle.std.proofs.Common.{◌∙◌, ap, inl, inr, ◌⊎◌, ◌≢◌}
+use Rattle.std.specs.Prelude.{ℕ, suc, zero, ◌≡◌, ◌<◌, ◌&&◌, ◌||◌, ◌==◌, not, Bool, true, false, List, [], ◌∷◌, ◌++◌, length, Option, Some, None, refl, slice_index_or, slice_set, if◌then◌else◌, nat_lt}
+use Rattle.std.proofs.lemmas.Bool.{and_parts, eq-eqb, ltb-true}
 use Rattle.std.proofs.lemmas.List.{get_or-set_other, length-set}
 use Rattle.h2_model.specs.Calls.{is_open_here}
 use Rattle.h2_model.specs.History.{Open, Finish, called}
-use Rattle.filter_model.specs.View.{ViewEntry, NoStream}
+use Rattle.filter_model.specs.View.{ViewEntry}
 use Rattle.hub_model.specs.HubCalls.{HubConfig}
 use Rattle.hub_model.specs.World.{EndedStream, World, Line, no_line, line, put, is_live_at, is_over, account_of}
-use Rattle.hub_model.specs.Happens.{world_rules}
-use Rattle.hub_model.specs.Meeting.{entered, opening, opening_if, with_stream, wants_stream, can_begin, kept, placed, reset_first, within_limit, ending, ending_on, end_due, with_end, meet_if, meet, meet_all}
+use Rattle.hub_model.specs.Meeting.{entered, opening, opening_if, with_stream, wants_stream, can_begin, kept, placed, reset_first, ending, ending_on, end_due, with_end, meet_if, meet, meet_all}
 
 pub set_at : {A : Type 0} (xs : List A) (j k : ℕ) (x d : A)
     → ((k ≡ j) × (slice_index_or (slice_set xs j x) k d ≡ x)) ⊎ (slice_index_or (slice_set xs j x) k d ≡ slice_index_or xs k d)
@@ -24,6 +24,16 @@ append_or_same [] zero x d = inl refl
 append_or_same [] (suc j) x d = inr refl
 append_or_same (y ∷ ys) zero x d = inr refl
 append_or_same (y ∷ ys) (suc j) x d = append_or_same ys j x d
+
+pub or_false : (a b : Bool) → (a || b) ≡ false → (a ≡ false) × (b ≡ false)
+or_false true b h = absurd cc
+or_false false b h = (refl, h)
+
+pub same_true : (n : ℕ) → (n == n) ≡ true
+same_true n = eq-eqb n n refl
+
+pub live_there : (k : ℕ) (w : World) → is_live_at k w ≡ true → k < length w.lines
+live_there k w o = ltb-true k (length w.lines) (and_parts (nat_lt k (length w.lines)) _ o).0
 
 -- What ends a stream changes no line
 

@@ -1,21 +1,18 @@
 -- A call that isn't near an exchange leaves its view as it was.
-use Rattle.std.proofs.Common.{sym, ◌∙◌, ap, subst, arith, ◌≢◌, inl, inr, ◌⊎◌}
-use Rattle.std.specs.Prelude.{ℕ, suc, zero, ◌≡◌, ◌≤◌, ◌<◌, ◌+◌, ◌==◌, Bool, true, false, List, [], ◌∷◌, ◌++◌, length, take, replicate, Option, Some, None, refl, slice_index_or}
+use Rattle.std.proofs.Common.{sym, ◌∙◌, ap, ◌≢◌, inl, inr}
+use Rattle.std.specs.Prelude.{ℕ, ◌≡◌, ◌<◌, ◌==◌, true, false, length, take, Option, Some, None, refl}
 use Rattle.std.proofs.lemmas.Bool.{eqb-false}
-use Rattle.std.proofs.lemmas.List.{length-set}
-use Rattle.std.proofs.Common.{length-append}
 use Rattle.std.proofs.Math.ListN.{get_or-append}
-use Rattle.filter_model.specs.View.{ViewEntry, Bytes, End, Lost, Starved, Given, Sent}
+use Rattle.filter_model.specs.View.{ViewEntry, Bytes, End, Lost, Starved, Given}
 use Rattle.filter_model.specs.declared.calls.Side.{Side}
 use Rattle.filter_model.specs.declared.calls.Side.TheVariants.{Client, Upstream}
-use Rattle.filter_model.specs.declared.calls.Taken.{Taken}
 use Rattle.filter_model.specs.declared.calls.Taken.TheVariants.{Piece, Nothing, Done, Abort, Gone}
 use Rattle.hub_model.specs.HubCalls.{HubCall, HubConfig, Opened, NotOpened, Fed, Ended, PortLost, Ticked, Took, Gave, Failed, port_of, side_of}
 use Rattle.hub_model.specs.World.{World, Line, no_line, line, put}
 use Rattle.hub_model.specs.Meeting.{meet}
 use Rattle.hub_model.specs.Sending.{gave}
-use Rattle.hub_model.specs.Happens.{close, happens, happens_at, opened}
-use Rattle.hub_model.specs.HubRight.{is_near, is_noise, noise_at}
+use Rattle.hub_model.specs.Happens.{close, happens, happens_at}
+use Rattle.hub_model.specs.HubRight.{is_noise, noise_at}
 use Rattle.hub_model.proofs.Places.{meet-other, set_at}
 
 away : (j k : ℕ) → (j == k) ≡ false → k ≢ j

@@ -1,12 +1,9 @@
 -- In every history of a hub the view of each exchange is one that an exchange by itself may have.
-use Rattle.std.proofs.Common.{sym, ◌∙◌, ap, subst, inl, inr, ◌⊎◌}
-use Rattle.std.specs.Prelude.{ℕ, suc, zero, ◌≡◌, Bool, true, false, List, [], ◌∷◌, map, Option, Some, None, refl, slice_index_or}
-use Rattle.h2_model.specs.declared.answers.Event.{Event}
+use Rattle.std.proofs.Common.{sym, subst, inl, inr}
+use Rattle.std.specs.Prelude.{ℕ, suc, zero, List, [], ◌∷◌, map}
 use Rattle.h2_model.specs.History.{Open, called}
-use Rattle.http_model.specs.Bytes.{IsPrefix}
 use Rattle.filter_model.specs.Config.{FilterConfig}
-use Rattle.filter_model.specs.View.{ViewEntry, Tick}
-use Rattle.filter_model.specs.Account.{ExchangeAccount}
+use Rattle.filter_model.specs.View.{Tick}
 use Rattle.filter_model.specs.Step.{after}
 use Rattle.filter_model.specs.Right.{GivenRight, Right}
 use Rattle.filter_model.specs.declared.calls.Side.{Side}
@@ -14,12 +11,10 @@ use Rattle.filter_model.specs.declared.calls.Side.TheVariants.{Client, Upstream}
 use Rattle.filter_model.proofs.RightAlong.{right_along}
 use Rattle.hub_model.specs.HubCalls.{HubCall, HubConfig, place}
 use Rattle.hub_model.specs.World.{World, Line, no_line, line, put, account_of, start}
-use Rattle.hub_model.specs.Meeting.{entered, opening}
-use Rattle.hub_model.specs.Hearing.{with_heard}
-use Rattle.hub_model.specs.Happens.{close, closed_for, new_line, opened, world}
+use Rattle.hub_model.specs.Happens.{close, new_line, opened, world}
 use Rattle.hub_model.specs.Allowed.{IsHubHistory}
 use Rattle.hub_model.specs.HubRight.{RightGiven}
-use Rattle.hub_model.proofs.Backed.{Backed, backed_nil, Enters, enter}
+use Rattle.hub_model.proofs.Backed.{Backed, backed_nil, enter}
 use Rattle.hub_model.proofs.Places.{set_at, append_or_same}
 use Rattle.hub_model.proofs.Along.{Keeps, along}
 
@@ -56,11 +51,12 @@ keeps-sound c = record {
   begins = start-sound c;
   enters = λ k e w g s. put-sound c k _ w s (enter c.filter (line k w).view e (s k) g);
   streams = λ k w wanted can s. put-sound c k _ (record w { session = called Open w.session }) s (s k);
-  finishes = λ id ended w here s. s;
-  resets = λ id w live s. s;
+  finishes = λ k id e w d s. s;
+  resets = λ k id e w d s. s;
+  trims = λ id w there live o s. s;
   hears = λ e k w s. put-sound c k _ w s (s k);
   byte = λ b w s. s;
-  hands = λ x w h s. s;
+  hands = λ x w h o s. s;
   gives = λ n w h s. s;
   breaks = λ w s. s;
   counts = λ w s. s;

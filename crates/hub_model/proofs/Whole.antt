@@ -1,8 +1,8 @@
 -- Each exchange of a quiet hub is whole where all has arrived, since an exchange by itself is.
-use Rattle.std.proofs.Common.{sym, ◌∙◌, ap, subst, arith, inl, inr, ◌⊎◌}
-use Rattle.std.specs.Prelude.{ℕ, zero, suc, ◌≡◌, ◌<◌, ◌≤◌, ◌+◌, ◌==◌, ◌&&◌, ◌||◌, Bool, true, false, List, [], ◌∷◌, length, Option, Some, None, refl, nat_lt, if◌then◌else◌}
+use Rattle.std.proofs.Common.{sym, subst, arith, inl, inr}
+use Rattle.std.specs.Prelude.{ℕ, ◌≡◌, ◌<◌, ◌≤◌, ◌==◌, ◌&&◌, Bool, true, false, List, [], ◌∷◌, length, Option, Some, None, refl, if◌then◌else◌}
 use Rattle.std.specs.List.{list_any}
-use Rattle.std.proofs.lemmas.Bool.{and_parts, or_cases, eqb-true, ltb-true}
+use Rattle.std.proofs.lemmas.Bool.{and_parts, or_cases, eqb-true}
 use Rattle.filter_model.specs.Step.{after}
 use Rattle.filter_model.specs.Right.{MayTake}
 use Rattle.filter_model.specs.declared.calls.Side.{Side}
@@ -10,11 +10,12 @@ use Rattle.filter_model.specs.declared.calls.Side.TheVariants.{Client, Upstream}
 use Rattle.filter_model.specs.declared.calls.Taken.{Taken}
 use Rattle.filter_model.specs.declared.calls.Taken.TheVariants.{Piece, Nothing, Done, Abort, Gone}
 use Rattle.hub_model.specs.HubCalls.{HubCall, HubConfig, Opened, NotOpened, Fed, Ended, PortLost, Ticked, Took, Gave, Failed, place, port_of, side_of}
-use Rattle.hub_model.specs.World.{World, Line, line, account_of, is_live_at}
+use Rattle.hub_model.specs.World.{World, line, account_of, is_live_at}
 use Rattle.hub_model.specs.Happens.{happens, world}
 use Rattle.hub_model.specs.Allowed.{IsHubHistory, MayAt, MayTakeAt, MayTakeIf}
-use Rattle.hub_model.specs.HubRight.{WholeOf, is_near, is_noise, is_quiet_at, is_same_side, is_side, is_take, is_take_of_processor, noise_at, take_at, while_quiet}
+use Rattle.hub_model.specs.HubRight.{WholeOf, is_noise, is_same_side, is_take, is_take_of_processor, noise_at, take_at, while_quiet}
 use Rattle.hub_model.proofs.Sound.{sound}
+use Rattle.hub_model.proofs.Places.{live_there}
 use Rattle.hub_model.proofs.Long.{long}
 use Rattle.hub_model.proofs.Quiet.{silent}
 use Rattle.hub_model.proofs.WholeFrom.{Idle, whole_from}
@@ -47,9 +48,6 @@ kept c s k x w n a =
       idle = a.idle;
       may = subst (λ v. MayTake c.filter (after c.filter v) s a.taken) (sym e) a.may;
     }
-
-live_there : (k : ℕ) (w : World) → is_live_at k w ≡ true → k < length w.lines
-live_there k w o = ltb-true k (length w.lines) (and_parts (nat_lt k (length w.lines)) _ o).0
 
 by_live : (c : HubConfig) (s : Side) (k : ℕ) (t : Taken) (w : World) (b : Bool) → is_live_at k w ≡ b → Idle t → MayTakeIf c s k t w b → Answered c s k w
 by_live c s k t w true o i m = record { there = live_there k w o; taken = t; idle = i; may = m }

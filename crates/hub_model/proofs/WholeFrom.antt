@@ -1,6 +1,6 @@
 -- An exchange of a hub is whole where its two ports answered without a piece, since an exchange by itself is.
 use Rattle.std.proofs.Common.{sym, ◌∙◌, ap, subst, arith}
-use Rattle.std.specs.Prelude.{ℕ, ◌≡◌, Bool, true, false, List, [], ◌∷◌, length, Option, Some, None, refl, map, filter_map}
+use Rattle.std.specs.Prelude.{◌≡◌, Bool, true, false, List, ◌∷◌, length, Option, Some, None, refl, map, filter_map}
 use Rattle.std.proofs.lemmas.Option.{slice_get_past}
 use Rattle.std.proofs.lemmas.List.{length-map}
 use Rattle.ext_msgs.specs.Spelling.{ask}

@@ -1,5 +1,5 @@
 -- What each call of a hub may answer.
-use Rattle.std.specs.Prelude.{ℕ, suc, zero, ◌+◌, ◌≡◌, ◌<◌, ◌≤◌, ◌⊎◌, min, Bool, true, false, ◌&&◌, ◌||◌, not, List, [], ◌∷◌, ◌++◌, length, drop, take, Option, Some, None, if◌then◌else◌, nat_le}
+use Rattle.std.specs.Prelude.{ℕ, suc, zero, ◌+◌, ◌≡◌, ◌<◌, ◌≤◌, min, Bool, true, false, ◌&&◌, ◌||◌, not, List, [], ◌∷◌, ◌++◌, length, drop, Option, Some, None, if◌then◌else◌, nat_le}
 use Rattle.hpack_core.specs.Writing.{BlockWritten}
 use Rattle.h2_model.specs.Account.{Account}
 use Rattle.h2_model.specs.Calls.{control, is_open_here, next_head, sendable}
@@ -87,9 +87,14 @@ pub record MayHandData (c : HubConfig) (w : World) (id : ℕ) (bytes : List ℕ)
   pub first : IsPrefix (all_handed id a.log ++ bytes) (asks_of c (line place w))
 
 -- one head for each stream, in the order of their numbers
+pub record MayHandHead (c : HubConfig) (w : World) (id : ℕ) (block : List ℕ) (a : Account) : Type 0 where
+  pub place : ℕ
+  pub own : (line place w).stream ≡ Some id
+  pub next : next_head a ≡ Some id
+  pub written : BlockWritten (known_limit a.log) (table_limit a.log) (call_fields c.authority) block
+
 abbrev pub MayHand : HubConfig → World → Handing → Account → Type 0
-MayHand c w (HandsHead id block) a =
-    (next_head a ≡ Some id) × BlockWritten (known_limit a.log) (table_limit a.log) (call_fields c.authority) block
+MayHand c w (HandsHead id block) a = MayHandHead c w id block a
 MayHand c w (HandsData id bytes) a = MayHandData c w id bytes a
 
 abbrev pub MayHandAll : HubConfig → World → List Handing → Account → Type 0

@@ -1,5 +1,5 @@
 -- The world after the calls of a hub: one fold over its history. The view of an exchange is a part of it.
-use Rattle.std.specs.Prelude.{ℕ, suc, true, false, not, List, [], ◌∷◌, ◌++◌, length, take, map, Option, Some, None}
+use Rattle.std.specs.Prelude.{ℕ, suc, true, false, List, [], ◌∷◌, ◌++◌, take, map, Option, Some, None}
 use Rattle.filter_model.specs.View.{ViewEntry, Bytes, End, Lost, Tick, Starved, Given}
 use Rattle.filter_model.specs.declared.calls.Side.{Side}
 use Rattle.filter_model.specs.declared.calls.Side.TheVariants.{Client, Upstream}

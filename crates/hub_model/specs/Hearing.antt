@@ -1,5 +1,5 @@
 -- What the processor's bytes come to: what each stream brings is for the exchange whose stream it is.
-use Rattle.std.specs.Prelude.{ℕ, Bool, true, false, not, ◌&&◌, List, [], ◌∷◌, length, drop, map, Option, Some, None, if◌then◌else◌, ◌==◌}
+use Rattle.std.specs.Prelude.{ℕ, Bool, true, false, not, ◌&&◌, List, [], ◌∷◌, length, drop, map, Option, Some, None, ◌==◌}
 use Rattle.std.specs.Result.{result_ok}
 use Rattle.ext_msgs.specs.Messages.{answer_of}
 use Rattle.h2_model.specs.declared.answers.Event.{Event}

@@ -1,5 +1,5 @@
 -- An entry of one exchange, and what it makes due at once: its stream, and the end of it.
-use Rattle.std.specs.Prelude.{ℕ, suc, zero, ◌+◌, Bool, true, false, not, ◌&&◌, ◌||◌, List, [], ◌∷◌, length, Option, Some, None, if◌then◌else◌, ◌==◌, nat_le, nat_lt, filter, is_none}
+use Rattle.std.specs.Prelude.{ℕ, suc, zero, Bool, true, false, not, ◌&&◌, ◌||◌, List, [], ◌∷◌, length, Option, Some, None, if◌then◌else◌, ◌==◌, nat_le, nat_lt, filter, is_none}
 use Rattle.std.specs.List.{list_any}
 use Rattle.h2_frames.specs.declared.frame.Frame.{Frame}
 use Rattle.h2_model.specs.Account.{Account, is_headless}

@@ -1,7 +1,8 @@
 -- What goes to the processor: heads, asks, and which asks were sent.
-use Rattle.std.specs.Prelude.{ℕ, suc, zero, ◌+◌, ◌-◌, false, List, [], ◌∷◌, ◌++◌, length, flat_map, if◌then◌else◌, ◌==◌, nat_le, Option, Some, None, replicate}
+use Rattle.std.specs.Prelude.{ℕ, suc, ◌+◌, ◌-◌, false, List, [], ◌∷◌, ◌++◌, length, flat_map, filter_map, if◌then◌else◌, ◌==◌, nat_le, Option, Some, None, replicate}
 use Rattle.ext_msgs.specs.Spelling.{ask}
 use Rattle.ext_msgs.specs.declared.ask.Ask.{Ask}
+use Rattle.h2_frames.specs.declared.frame.Frame.{Frame}
 use Rattle.h2_frames.specs.declared.frame.Frame.TheVariants as frame
 use Rattle.h2_model.specs.Account.{Account}
 use Rattle.h2_model.specs.History.{Call, Head, Send, Take, called}
@@ -26,15 +27,26 @@ framed_ask x = framed_message (ask x)
 abbrev pub asks_of : HubConfig → Line → List ℕ
 asks_of c l = flat_map framed_ask (account_of c l).made
 
--- the bytes of DATA that an entry hands over on a stream
-abbrev pub data_handed : ℕ → LogEntry → List ℕ
-data_handed id (Handed (frame.Data n bytes last size)) = if n == id then bytes else []
-data_handed id _ = []
+abbrev pub frame_handed : LogEntry → Option Frame
+frame_handed (Handed f) = Some f
+frame_handed _ = None
 
--- all bytes that were handed over on a stream, oldest first
+-- the frames that were handed over, newest first
+abbrev pub frames_handed : Log → List Frame
+frames_handed log = filter_map frame_handed log
+
+abbrev pub data_on : ℕ → Frame → List ℕ
+data_on id (frame.Data n bytes last size) = if n == id then bytes else []
+data_on id _ = []
+
+-- the bytes of a stream's DATA among frames, oldest first
+abbrev pub joined_data : ℕ → List Frame → List ℕ
+joined_data id [] = []
+joined_data id (f ∷ frames) = joined_data id frames ++ data_on id f
+
+-- all that was handed over on a stream
 abbrev pub all_handed : ℕ → Log → List ℕ
-all_handed id [] = []
-all_handed id (e ∷ log) = all_handed id log ++ data_handed id e
+all_handed id log = joined_data id (frames_handed log)
 
 -- What is handed over
 

@@ -4,7 +4,7 @@ ghost use Rattle.hub_model.specs.Allowed.{IsHubHistory};
 ghost use Rattle.hub_model.specs.Apart.{brings};
 ghost use Rattle.hub_model.specs.Happens.{view, world};
 ghost use Rattle.hub_model.specs.HubCalls.{Fed, HubCall, HubConfig, place};
-ghost use Rattle.hub_model.specs.HubRight.{RightGiven, WholeOf, is_noise};
+ghost use Rattle.hub_model.specs.HubRight.{RightGiven, StreamsRight, WholeOf, is_noise};
 ghost use Rattle.hub_model.specs.Meeting.{meet};
 ghost use Rattle.hub_model.specs.World.{World, line};
 ghost use Rattle.hub_model.specs.declared.ports.PortName.TheVariants as port;
@@ -17,6 +17,13 @@ pub fn each_exchange_right()
     ensures given { (c : HubConfig) (h : List HubCall) → IsHubHistory c h → (x : ℕ) →
         RightGiven c (line (place x) (world c h)) }
     ensures whole { (c : HubConfig) (h : List HubCall) → IsHubHistory c h → (x : ℕ) → WholeOf c x h }
+{}
+
+/// In every history of a hub each stream belongs to one exchange. What is handed over on it is one head, that of the
+/// call; DATA that joins to the first of the exchange's framed asks, in the order in which they were made; and at most
+/// one end, which was due. Behind END_STREAM a reset follows at most, of a stream that is kept no longer.
+pub fn streams_right()
+    ensures { (c : HubConfig) (h : List HubCall) → IsHubHistory c h → StreamsRight c (world c h) }
 {}
 
 /// An entry of one exchange leaves every other as it was: its view, its stream and what came on it.

@@ -7,5 +7,7 @@
 mod laws;
 mod ports;
 
-pub use laws::{distant_calls_are_silent, each_exchange_right, others_untouched, streams_apart};
+pub use laws::{
+    distant_calls_are_silent, each_exchange_right, others_untouched, streams_apart, streams_right,
+};
 pub use ports::{OpenFault, PortName};

@@ -1,5 +1,5 @@
 use Rattle.std.proofs.Common.{ap}
-use Rattle.std.specs.Prelude.{ℕ, List, take}
+use Rattle.std.specs.Prelude.{take}
 use Rattle.hub_model.specs.HubCalls.{place}
 use Rattle.hub_model.specs.World.{Line}
 use Rattle.hub_model.specs.Happens.{happens, world}
