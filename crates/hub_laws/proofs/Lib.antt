@@ -1,0 +1,13 @@
+pub mod Courses
+pub mod Queues
+pub mod Resets
+pub mod Held
+pub mod Enters
+pub mod Steps
+pub mod Ordered
+pub mod Calls
+pub mod Taken
+pub mod Comes
+pub mod Heads
+pub mod Streams
+pub mod Windows
