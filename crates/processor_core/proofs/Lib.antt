@@ -1,0 +1,5 @@
+pub mod Choosing
+pub mod Asking
+pub mod Reading
+pub mod Hearing
+pub mod Grows
